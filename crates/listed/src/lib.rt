@@ -1,0 +1,8 @@
+//! What every crate of Steady stands on: lists as contracts see them, and want of memory.
+#![tactic(auto)]
+
+mod list;
+mod memory;
+
+pub use list::Listed;
+pub use memory::NoMemory;

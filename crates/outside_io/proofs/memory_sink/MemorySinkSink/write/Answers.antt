@@ -1,0 +1,13 @@
+use Rattle.std.proofs.Common.{rules, refl, inl, inr}
+use Rattle.std.proofs.lemmas.Grind.{common_steps}
+use Rattle.outside_io.proofs.memory_sink.MemorySinkSink.write.Goals as goal
+use Rattle.outside_io.proofs.memory_sink.MemorySinkSink.write.Goals.{then-contains-via-then-contains, then-contains-via-else-contains+then-not-is_empty, then-room-eq0, else-room-eq0}
+
+pub returns-then-contains-clause-exact : goal.returns-then-contains-clause-exact
+returns-then-contains-clause-exact c = (
+  λ _. elim c.then-contains.branch [
+    | then-contains-via-then-contains w ↦ inl (search rules)
+    | then-contains-via-else-contains+then-not-is_empty w ↦ inr (search rules)
+  ],
+  λ _. refl,
+)

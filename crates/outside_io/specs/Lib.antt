@@ -1,0 +1,6 @@
+pub mod Faults
+pub mod Files
+pub mod Sinks
+pub mod Memory
+pub mod Reading
+pub mod Entries

@@ -1,0 +1,58 @@
+-- Files and a sink in memory, which fail the calls that they are told to fail.
+use Rattle.std.specs.Prelude.{ℕ, Bool, List, [], ◌∷◌, Option, Some, cond, nat_eq, bytes_eq}
+use Rattle.std.specs.List.{list_any}
+use Rattle.outside_io.specs.Faults.{raised}
+use Rattle.outside_io.specs.Files.{Told, absent, contents, FilesView}
+use Rattle.outside_io.specs.Sinks.{SinkView}
+
+pub record MemoryFilesView : Type 0 where
+  -- names with what each contains; of two entries of one name the first counts
+  pub entries : List (List ℕ × List ℕ)
+  -- the numbers of the calls that fail
+  pub failing : List ℕ
+  -- how many opens and reads there were
+  pub calls : ℕ
+  -- what the current file contains
+  pub current : Option (List ℕ)
+  pub taken : ℕ
+  pub ready : Bool
+  pub faults : ℕ
+  pub opens : ℕ
+
+-- what the entries tell of a name
+abbrev pub told_by : List (List ℕ × List ℕ) → List ℕ → Told
+told_by [] name = absent
+told_by (entry ∷ entries) name = cond (bytes_eq entry.0 name) (contents entry.1) (told_by entries name)
+
+abbrev pub files_state : MemoryFilesView → FilesView
+files_state files = record {
+  held = told_by files.entries;
+  current = files.current;
+  taken = files.taken;
+  ready = files.ready;
+  faults = files.faults;
+  opens = files.opens;
+}
+
+-- the call with this number is to fail
+abbrev pub is_listed : ℕ → List ℕ → Bool
+is_listed call failing = list_any (λ listed. nat_eq listed call) failing
+
+-- after a call, which was a fault where it failed
+abbrev pub counted : MemoryFilesView → Bool → MemoryFilesView
+counted files fails = record files { calls = raised files.calls 1; faults = cond fails (raised files.faults 1) files.faults }
+
+pub record MemorySinkView : Type 0 where
+  pub written : List ℕ
+  -- how many bytes a call takes at the most
+  pub most : ℕ
+  -- for how many more bytes there is room
+  pub room : ℕ
+  -- the numbers of the calls that fail
+  pub failing : List ℕ
+  -- how many writes there were
+  pub calls : ℕ
+  pub faults : ℕ
+
+abbrev pub sink_state : MemorySinkView → SinkView
+sink_state sink = record { written = Some sink.written; faults = sink.faults }

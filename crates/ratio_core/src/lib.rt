@@ -1,0 +1,6 @@
+//! Fractions of whole numbers, in lowest terms.
+#![tactic(auto)]
+
+mod ratio;
+
+pub use ratio::{Ratio, gcd};

@@ -1,0 +1,65 @@
+//! Fractions in lowest terms.
+
+ghost use Rattle.std.specs.Prelude.{◌≡◌, ◌≤◌};
+ghost use Rattle.std.specs.Int.{IsGcd};
+ghost use Rattle.ratio_core.specs.Fraction.{reduced, gcd_of};
+
+use std::marker::Model;
+
+/// The greatest common divisor, by Euclid's algorithm; that of two zeros is 0.
+///
+/// Takes at most as many divisions as five times the decimal digits of the smaller number (Lamé's bound).
+pub fn gcd(a: u128, b: u128) -> u128
+    ensures divisor { IsGcd a b result }
+    ensures value { result ≡ gcd_of a b }
+{
+    if b == 0 { a } else { gcd(b, a % b) }
+}
+
+/// A fraction in lowest terms, with a denominator of at least 1; zero is 0/1.
+#[derive(Clone, Copy, Debug, PartialEq, Eq)]
+pub struct Ratio {
+    num: u128,
+    den: u128,
+}
+
+impl Model for Ratio {
+    ghost use Rattle.ratio_core.specs.Fraction.{Fraction, IsReduced};
+
+    ghost Value = { Fraction };
+
+    ghost view = { λ a. record { num = a.num; den = a.den } };
+
+    ghost invariant = { λ a. IsReduced (record { num = a.num; den = a.den }) };
+
+    ghost inverse = { λ f. record { num = f.num; den = f.den } };
+}
+
+impl Ratio {
+    /// The fraction `num / den` in lowest terms.
+    pub fn new(num: u128, den: u128) -> Ratio
+        requires { 1 ≤ den }
+        ensures { result ≡ reduced num den }
+    {
+        let divisor = gcd(num, den);
+        Ratio {
+            num: num / divisor,
+            den: den / divisor,
+        }
+    }
+
+    /// The numerator, in lowest terms.
+    pub fn num(&self) -> u128
+        ensures { result ≡ self.now.num }
+    {
+        self.num
+    }
+
+    /// The denominator, in lowest terms.
+    pub fn den(&self) -> u128
+        ensures value { result ≡ self.now.den }
+        ensures at_least_one { 1 ≤ self.now.den }
+    {
+        self.den
+    }
+}
