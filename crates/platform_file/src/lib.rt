@@ -1,13 +1,15 @@
-// A library with one function.
+//! Platforms: what a platform file says, and its times and costs in ticks.
 #![tactic(auto)]
 
-ghost use Rattle.std.specs.Prelude.{◌≡◌};
-ghost use Rattle.platform_file.specs.Echo.{echo_of};
+mod document;
+mod fault;
+mod platform;
+mod reading;
+mod scaling;
+mod ticks;
 
-// The `ensures` clause is the contract: what `echo` returns is `echo_of` of its argument, a definition
-// in `specs/Echo.antt`, which a caller's clause can cite too.
-pub fn echo(x: usize) -> usize
-    ensures { result ≡ echo_of x }
-{
-    x
-}
+pub use fault::{Kind, PlatformFault};
+pub use platform::{Link, Name, Node, Platform};
+pub use reading::read_platform;
+pub use scaling::timed;
+pub use ticks::Timed;

@@ -63,3 +63,13 @@ impl Ratio {
         self.den
     }
 }
+
+impl From<u128> for Ratio {
+    ghost use Rattle.ratio_core.specs.Fraction.{whole};
+
+    ghost from_gives = { λ n ratio. ratio ≡ whole n };
+
+    fn from(n: u128) -> Ratio {
+        Ratio { num: n, den: 1 }
+    }
+}

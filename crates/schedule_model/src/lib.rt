@@ -1,13 +1,8 @@
-// A library with one function.
+//! Schedules of a platform: what one is, what it completes and what none exceeds.
 #![tactic(auto)]
 
-ghost use Rattle.std.specs.Prelude.{◌≡◌};
-ghost use Rattle.schedule_model.specs.Echo.{echo_of};
+mod laws;
+mod schedule;
 
-// The `ensures` clause is the contract: what `echo` returns is `echo_of` of its argument, a definition
-// in `specs/Echo.antt`, which a caller's clause can cite too.
-pub fn echo(x: usize) -> usize
-    ensures { result ≡ echo_of x }
-{
-    x
-}
+pub use laws::ports_have_time;
+pub use schedule::{Op, Schedule, Series};

@@ -1,0 +1,2 @@
+pub mod LonePlatform
+pub mod TableKeys

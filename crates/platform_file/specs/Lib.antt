@@ -1,0 +1,4 @@
+pub mod Platform
+pub mod Ticks
+pub mod Documents
+pub mod Reading

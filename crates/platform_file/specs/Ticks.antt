@@ -1,0 +1,41 @@
+-- Platforms whose times and costs are counted in ticks. Source: this project; the papers count in rational time.
+use Rattle.std.specs.Prelude.{◌≡◌, ℕ, ◌*◌, ◌/◌, ◌%◌, ◌^◌, ◌≤◌, List, ◌++◌, map, flat_map, All, Option, IfSome, option_map, option_to_list}
+use Rattle.ratio_core.specs.Fraction.{Fraction}
+use Rattle.platform_file.specs.Platform.{NodeView, PlatformView, IsPlatform}
+
+-- a platform, the ticks of a time unit, each node's ticks for a task, and each link's for a task or message
+pub record TimedView : Type 0 where
+  pub platform : PlatformView
+  pub unit : ℕ
+  pub times : List (Option ℕ)
+  pub costs : List ℕ
+
+-- the ticks of a time or cost, which are whole where its denominator divides the unit
+abbrev pub ticks_of : ℕ → Fraction → ℕ
+ticks_of unit f = unit * f.num / f.den
+
+abbrev pub times_of : ℕ → PlatformView → List (Option ℕ)
+times_of unit p = map (λ node. option_map (ticks_of unit) node.time) p.nodes
+
+abbrev pub costs_of : ℕ → PlatformView → List ℕ
+costs_of unit p = map (λ link. ticks_of unit link.cost) p.links
+
+-- the denominators of all times in node order, and then of all costs in link order
+abbrev pub denominators_of : PlatformView → List ℕ
+denominators_of p = flat_map (λ node. option_to_list (option_map (λ time. time.den) node.time)) p.nodes ++ map (λ link. link.cost.den) p.links
+
+-- the number is a multiple of each of the denominators
+abbrev pub IsCommonMultiple : List ℕ → ℕ → Type 0
+IsCommonMultiple denominators n = All (λ den. n % den ≡ 0) denominators
+
+-- the unit is the least number of ticks that makes every time and cost whole, and each of them lasts
+pub record IsTimed (t : TimedView) : Type 0 where
+  pub platform : IsPlatform t.platform
+  pub some_unit : 1 ≤ t.unit
+  pub short_unit : t.unit ≤ 2 ^ 40
+  pub common : IsCommonMultiple (denominators_of t.platform) t.unit
+  pub least : (n : ℕ) → 1 ≤ n → IsCommonMultiple (denominators_of t.platform) n → t.unit ≤ n
+  pub times : t.times ≡ times_of t.unit t.platform
+  pub costs : t.costs ≡ costs_of t.unit t.platform
+  pub some_time : All (λ time. IfSome time (λ ticks. 1 ≤ ticks)) t.times
+  pub some_cost : All (λ ticks. 1 ≤ ticks) t.costs

@@ -1,0 +1,3 @@
+pub mod PortTime
+pub mod Durations
+pub mod Ports
