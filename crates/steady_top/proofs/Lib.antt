@@ -1,0 +1,5 @@
+pub mod LoneTimes
+pub mod LoneRate
+pub mod LoneSchedules
+pub mod LoneFits
+pub mod LoneBest

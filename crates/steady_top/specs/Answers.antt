@@ -1,0 +1,94 @@
+-- What an answer of the program says of the words, the files and the sink (this project).
+use Rattle.std.specs.Prelude.{◌≡◌, ℕ, List, Option, Some, None, Ok, ◌⊎◌}
+use Rattle.outside_io.specs.Files.{Told, untold, absent, contents, FilesView, HasCause}
+use Rattle.outside_io.specs.Faults.{Rose, raised}
+use Rattle.outside_io.specs.Sinks.{SinkView, IsWholeWritten, IsCutOff}
+use Rattle.platform_file.specs.Platform.{PlatformView}
+use Rattle.platform_file.specs.Reading.{platform_of, timed_of}
+use Rattle.schedule_model.specs.declared.schedule.Series.TheVariants.{Tasking}
+use Rattle.steady_top.specs.declared.table.Table.{Table}
+use Rattle.steady_top.specs.Best.{IsBest}
+use Rattle.steady_top.specs.PlanText.{plan_text}
+use Rattle.steady_top.specs.Refusals.{Refusal, usage, limit, not_toml, form_not_yet, cannot_read, no_memory, error_line}
+use Rattle.steady_top.specs.Outcomes.{Command, plan, command_of, Outcome, prints, refuses, outcome_of}
+
+-- this may be what a name holds of which that is told
+abbrev pub MayBe : Told → Option (List ℕ) → Type 0
+MayBe untold file = Unit {0}
+MayBe absent file = file ≡ None
+MayBe (contents bytes) file = file ≡ Some bytes
+
+-- this is told to be what a name holds
+abbrev pub IsToldAs : Told → Option (List ℕ) → Type 0
+IsToldAs untold file = ⊥
+IsToldAs absent file = file ≡ None
+IsToldAs (contents bytes) file = file ≡ Some bytes
+
+-- files that may be the ones that are read
+abbrev pub MayBeFiles : FilesView → (List ℕ → Option (List ℕ)) → Type 0
+MayBeFiles before files = (name : List ℕ) → MayBe (before.held name) (files name)
+
+-- the files tell all that they hold, and it is this
+abbrev pub AreToldAs : FilesView → (List ℕ → Option (List ℕ)) → Type 0
+AreToldAs before files = (name : List ℕ) → IsToldAs (before.held name) (files name)
+
+-- a text that the program is to print, where no call of the files failed
+pub record IsToPrint (words : List (List ℕ)) (before after : FilesView) (text : List ℕ) : Type 0 where
+  pub files : List ℕ → Option (List ℕ)
+  pub told : MayBeFiles before files
+  pub outcome : outcome_of words files ≡ prints text
+  pub calm : after.faults ≡ before.faults
+
+-- the words and what was read are refused so
+pub record IsToRefuse (words : List (List ℕ)) (before : FilesView) (refusal : Refusal) : Type 0 where
+  pub files : List ℕ → Option (List ℕ)
+  pub told : MayBeFiles before files
+  pub outcome : outcome_of words files ≡ refuses refusal
+
+-- the file of the words couldn't be opened or read, in the one open of the call
+pub record IsReadFault (words : List (List ℕ)) (before after : FilesView) (name : List ℕ) : Type 0 where
+  pub command : command_of words ≡ Some (plan name)
+  pub cause : HasCause before name after
+  pub one_open : after.opens ≡ raised before.opens 1
+
+-- a refusal with its cause; want of memory may come at any time
+abbrev pub IsCause : List (List ℕ) → FilesView → FilesView → Refusal → Type 0
+IsCause words before after (cannot_read name) = IsReadFault words before after name
+IsCause words before after no_memory = Unit {0}
+IsCause words before after usage = IsToRefuse words before usage
+IsCause words before after (limit kind found) = IsToRefuse words before (limit kind found)
+IsCause words before after not_toml = IsToRefuse words before not_toml
+IsCause words before after form_not_yet = IsToRefuse words before form_not_yet
+
+-- a text was printed whole, as it was to be
+pub record IsPrinted (words : List (List ℕ)) (before after : FilesView) (empty full : SinkView) : Type 0 where
+  pub text : List ℕ
+  pub due : IsToPrint words before after text
+  pub written : IsWholeWritten empty text full
+
+-- the error line of a refusal was written whole, and the refusal has its cause
+pub record IsRefused (words : List (List ℕ)) (before after : FilesView) (empty full : SinkView) (refusal : Refusal) : Type 0 where
+  pub cause : IsCause words before after refusal
+  pub written : IsWholeWritten empty (error_line refusal) full
+
+-- the text that was to be written: a printed one, or a refusal's error line
+pub record IsDue (words : List (List ℕ)) (before after : FilesView) (text : List ℕ) : Type 0 where
+  pub due : IsToPrint words before after text ⊎ ((refusal : Refusal) × IsCause words before after refusal × (text ≡ error_line refusal))
+
+-- a write failed, and a front of the text is out
+pub record IsCutShort (words : List (List ℕ)) (before after : FilesView) (empty full : SinkView) : Type 0 where
+  pub text : List ℕ
+  pub due : IsDue words before after text
+  pub cut : IsCutOff empty text full
+
+-- what was printed is the plan of a best table for the platform of the file's bytes
+pub record IsBestPlan (words : List (List ℕ)) (before : FilesView) (empty full : SinkView) : Type 0 where
+  pub name : List ℕ
+  pub command : command_of words ≡ Some (plan name)
+  pub bytes : List ℕ
+  pub file : MayBe (before.held name) (Some bytes)
+  pub platform : PlatformView
+  pub read : platform_of bytes ≡ Ok platform
+  pub table : Table
+  pub best : IsBest (timed_of platform) Tasking table
+  pub written : IsWholeWritten empty (plan_text (timed_of platform) Tasking table) full
