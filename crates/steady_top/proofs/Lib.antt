@@ -3,3 +3,5 @@ pub mod LoneRate
 pub mod LoneSchedules
 pub mod LoneFits
 pub mod LoneBest
+pub mod Responses
+pub mod Plans

@@ -6,10 +6,12 @@ use Rattle.outside_io.specs.Sinks.{SinkView, IsWholeWritten, IsCutOff}
 use Rattle.platform_file.specs.Platform.{PlatformView}
 use Rattle.platform_file.specs.Reading.{platform_of, timed_of}
 use Rattle.schedule_model.specs.declared.schedule.Series.TheVariants.{Tasking}
+use Rattle.steady_top.specs.declared.status.Status.{Status}
+use Rattle.steady_top.specs.declared.status.Status.TheVariants as status
 use Rattle.steady_top.specs.declared.table.Table.{Table}
 use Rattle.steady_top.specs.Best.{IsBest}
 use Rattle.steady_top.specs.PlanText.{plan_text}
-use Rattle.steady_top.specs.Refusals.{Refusal, usage, limit, not_toml, form_not_yet, cannot_read, no_memory, error_line}
+use Rattle.steady_top.specs.Refusals.{Refusal, usage, limit, not_toml, form_not_yet, cannot_read, no_memory, status_of, error_line}
 use Rattle.steady_top.specs.Outcomes.{Command, plan, command_of, Outcome, prints, refuses, outcome_of}
 
 -- this may be what a name holds of which that is told
@@ -71,18 +73,20 @@ pub record IsRefused (words : List (List ℕ)) (before after : FilesView) (empty
   pub cause : IsCause words before after refusal
   pub written : IsWholeWritten empty (error_line refusal) full
 
--- the text that was to be written: a printed one, or a refusal's error line
-pub record IsDue (words : List (List ℕ)) (before after : FilesView) (text : List ℕ) : Type 0 where
-  pub due : IsToPrint words before after text ⊎ ((refusal : Refusal) × IsCause words before after refusal × (text ≡ error_line refusal))
+-- a refusal's error line, with its cause
+pub record IsDueLine (words : List (List ℕ)) (before after : FilesView) (text : List ℕ) : Type 0 where
+  pub refusal : Refusal
+  pub cause : IsCause words before after refusal
+  pub is_line : text ≡ error_line refusal
 
 -- a write failed, and a front of the text is out
 pub record IsCutShort (words : List (List ℕ)) (before after : FilesView) (empty full : SinkView) : Type 0 where
   pub text : List ℕ
-  pub due : IsDue words before after text
+  pub due : IsToPrint words before after text ⊎ IsDueLine words before after text
   pub cut : IsCutOff empty text full
 
--- what was printed is the plan of a best table for the platform of the file's bytes
-pub record IsBestPlan (words : List (List ℕ)) (before : FilesView) (empty full : SinkView) : Type 0 where
+-- the text is the plan of a best table for the platform of the file's bytes
+pub record IsBestText (words : List (List ℕ)) (before : FilesView) (text : List ℕ) : Type 0 where
   pub name : List ℕ
   pub command : command_of words ≡ Some (plan name)
   pub bytes : List ℕ
@@ -91,4 +95,54 @@ pub record IsBestPlan (words : List (List ℕ)) (before : FilesView) (empty full
   pub read : platform_of bytes ≡ Ok platform
   pub table : Table
   pub best : IsBest (timed_of platform) Tasking table
-  pub written : IsWholeWritten empty (plan_text (timed_of platform) Tasking table) full
+  pub is_plan : text ≡ plan_text (timed_of platform) Tasking table
+
+-- such a text was printed whole
+pub record IsBestPrinted (words : List (List ℕ)) (before : FilesView) (empty full : SinkView) : Type 0 where
+  pub text : List ℕ
+  pub best : IsBestText words before text
+  pub written : IsWholeWritten empty text full
+
+-- the file was refused, by its text or its form
+pub record IsPlatformRefused (words : List (List ℕ)) (before after : FilesView) (empty full : SinkView) : Type 0 where
+  pub refusal : Refusal
+  pub is : status_of refusal ≡ status.Platform
+  pub refused : IsRefused words before after empty full refusal
+
+-- the text that is due was written, with its status, or a write failed
+abbrev pub Ends : Status → List ℕ → SinkView → SinkView → Status → Type 0
+Ends due text empty full result = ((result ≡ due) × IsWholeWritten empty text full) ⊎ ((result ≡ status.WriteFault) × IsCutOff empty text full)
+
+-- a text to print, and what it is
+pub record IsAnswer (words : List (List ℕ)) (before after : FilesView) (text : List ℕ) : Type 0 where
+  pub due : IsToPrint words before after text
+  pub best : IsBestText words before text
+
+-- a text was to be printed
+pub record IsPrintAttempt (words : List (List ℕ)) (before after : FilesView) (empty full : SinkView) (result : Status) : Type 0 where
+  pub text : List ℕ
+  pub answer : IsAnswer words before after text
+  pub ends : Ends status.Done text empty full result
+
+-- a refusal's error line was to be written
+pub record IsRefusalAttempt (words : List (List ℕ)) (before after : FilesView) (empty full : SinkView) (result : Status) : Type 0 where
+  pub refusal : Refusal
+  pub cause : IsCause words before after refusal
+  pub ends : Ends (status_of refusal) (error_line refusal) empty full result
+
+-- the program ends in one of these ways
+abbrev pub IsResponse : List (List ℕ) → FilesView → FilesView → SinkView → SinkView → Status → Type 0
+IsResponse words before after empty full result =
+    IsPrintAttempt words before after empty full result ⊎ IsRefusalAttempt words before after empty full result
+
+-- a status that the program can end with so far
+abbrev pub IsStatus : Status → Type 0
+IsStatus status.Overflow = ⊥
+IsStatus status.Spent = ⊥
+IsStatus status.TooLong = ⊥
+IsStatus status.Refused = ⊥
+IsStatus other = Unit {0}
+
+-- the fact holds of the one or the other
+abbrev pub IsOneOf : Refusal → Refusal → (Refusal → Type 0) → Type 0
+IsOneOf refusal other P = P refusal ⊎ P other

@@ -9,3 +9,4 @@ pub mod Outcomes
 pub mod Answers
 pub mod Exits
 pub mod Faults
+pub mod Planned

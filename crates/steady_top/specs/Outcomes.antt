@@ -42,10 +42,11 @@ abbrev pub plan_of_name : List ℕ → Option (List ℕ) → Outcome
 plan_of_name name None = refuses (cannot_read name)
 plan_of_name name (Some bytes) = plan_of_file bytes
 
--- what the program answers where each name holds these contents
+-- what comes of a command, where each name holds these contents
+abbrev pub outcome_of_command : (List ℕ → Option (List ℕ)) → Option Command → Outcome
+outcome_of_command files None = refuses usage
+outcome_of_command files (Some (plan name)) = plan_of_name name (files name)
+
+-- what the program answers
 abbrev pub outcome_of : List (List ℕ) → (List ℕ → Option (List ℕ)) → Outcome
-outcome_of words files = of_command (command_of words)
-  where
-    of_command : Option Command → Outcome
-    of_command None = refuses usage
-    of_command (Some (plan name)) = plan_of_name name (files name)
+outcome_of words files = outcome_of_command files (command_of words)

@@ -52,8 +52,8 @@ pub fn print_plan(alloc: Global, timed: &Timed, table: &Table) -> Result<String,
     let tasks = table.tasks * u128::from(timed.unit());
     push_rate(&mut out, Ratio::new(tasks, table.period))?;
     let name = timed.platform().nodes()[0].name().as_str();
-    push_route(&mut out, 0, table.tasks, name)?;
-    push_number(&mut out, "slot", table.period)?;
+    push_route(&mut out, 0, table.routes.as_slice()[0].count, name)?;
+    push_number(&mut out, "slot", table.slots.as_slice()[0].duration)?;
     out.push_str("end\n")?;
     Ok(out)
 }

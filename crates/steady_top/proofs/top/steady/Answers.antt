@@ -1,0 +1,35 @@
+use Rattle.steady_top.proofs.Responses.{done, best, refused_usage, refused_platform, refused_read, refused_memory, cut_short, no_other, complete, exact, no_command}
+use Rattle.steady_top.proofs.top.steady.Goals as goal
+
+pub returns-clause-done : goal.returns-clause-done
+returns-clause-done g c = done _ _ _ _ _ _ c.respond.ensures
+
+pub returns-clause-best : goal.returns-clause-best
+returns-clause-best g c = best _ _ _ _ _ _ c.respond.ensures
+
+pub returns-clause-usage : goal.returns-clause-usage
+returns-clause-usage g c = refused_usage _ _ _ _ _ _ c.respond.ensures
+
+pub returns-clause-platform : goal.returns-clause-platform
+returns-clause-platform g c = refused_platform _ _ _ _ _ _ c.respond.ensures
+
+pub returns-clause-read_fault : goal.returns-clause-read_fault
+returns-clause-read_fault g c = refused_read _ _ _ _ _ _ c.respond.ensures
+
+pub returns-clause-memory : goal.returns-clause-memory
+returns-clause-memory g c = refused_memory _ _ _ _ _ _ c.respond.ensures
+
+pub returns-clause-write_fault : goal.returns-clause-write_fault
+returns-clause-write_fault g c = cut_short _ _ _ _ _ _ c.respond.ensures
+
+pub returns-clause-no_other : goal.returns-clause-no_other
+returns-clause-no_other g c = no_other _ _ _ _ _ _ c.respond.ensures
+
+pub returns-clause-complete : goal.returns-clause-complete
+returns-clause-complete g c = complete _ _ _ _ _ _ c.respond.ensures
+
+pub returns-clause-exact : goal.returns-clause-exact
+returns-clause-exact g c = exact _ _ _ _ _ _ c.respond.ensures
+
+pub returns-clause-no_command : goal.returns-clause-no_command
+returns-clause-no_command g c = no_command _ _ _ _ _ _ c.respond.ensures

@@ -1,0 +1,46 @@
+-- What planning a named file comes to, before anything is written (this project).
+use Rattle.std.specs.Prelude.{◌≡◌, ℕ, List, Some, Ok}
+use Rattle.outside_io.specs.Files.{FilesView, HasCause}
+use Rattle.outside_io.specs.Faults.{raised}
+use Rattle.platform_file.specs.Platform.{PlatformView}
+use Rattle.platform_file.specs.Reading.{platform_of, timed_of}
+use Rattle.schedule_model.specs.declared.schedule.Series.TheVariants.{Tasking}
+use Rattle.steady_top.specs.declared.table.Table.{Table}
+use Rattle.steady_top.specs.Best.{IsBest}
+use Rattle.steady_top.specs.PlanText.{plan_text}
+use Rattle.steady_top.specs.Refusals.{Refusal, usage, limit, not_toml, form_not_yet, cannot_read, no_memory}
+use Rattle.steady_top.specs.Outcomes.{prints, refuses, plan_of_file}
+use Rattle.steady_top.specs.Answers.{MayBe}
+
+-- the text is the plan of the file's platform
+pub record IsPlanned (before : FilesView) (name : List ℕ) (after : FilesView) (text : List ℕ) : Type 0 where
+  pub bytes : List ℕ
+  pub file : MayBe (before.held name) (Some bytes)
+  pub outcome : plan_of_file bytes ≡ prints text
+  pub calm : after.faults ≡ before.faults
+  pub platform : PlatformView
+  pub read : platform_of bytes ≡ Ok platform
+  pub table : Table
+  pub best : IsBest (timed_of platform) Tasking table
+  pub is_plan : text ≡ plan_text (timed_of platform) Tasking table
+
+-- what was read of the file is refused
+pub record IsFileRefused (before : FilesView) (name : List ℕ) (refusal : Refusal) : Type 0 where
+  pub bytes : List ℕ
+  pub file : MayBe (before.held name) (Some bytes)
+  pub outcome : plan_of_file bytes ≡ refuses refusal
+
+-- the file can't be opened or read
+pub record IsFileFault (before : FilesView) (name : List ℕ) (after : FilesView) (named : List ℕ) : Type 0 where
+  pub same : named ≡ name
+  pub cause : HasCause before name after
+  pub one_open : after.opens ≡ raised before.opens 1
+
+-- why there is no plan
+abbrev pub IsPlanFault : FilesView → List ℕ → FilesView → Refusal → Type 0
+IsPlanFault before name after (cannot_read named) = IsFileFault before name after named
+IsPlanFault before name after no_memory = Unit {0}
+IsPlanFault before name after usage = IsFileRefused before name usage
+IsPlanFault before name after (limit kind found) = IsFileRefused before name (limit kind found)
+IsPlanFault before name after not_toml = IsFileRefused before name not_toml
+IsPlanFault before name after form_not_yet = IsFileRefused before name form_not_yet
