@@ -3,6 +3,8 @@
 
 mod list;
 mod memory;
+#[cfg(test)]
+mod tests;
 
 pub use list::Listed;
 pub use memory::NoMemory;

@@ -37,9 +37,15 @@ pub record IsOpened (before : FilesView) (name : List ℕ) (after : FilesView) :
   pub opens : after.opens ≡ raised before.opens 1
   pub held : (other : List ℕ) → after.held other ≡ before.held other
 
--- a call failed: the count of faults rose, or the name is told to be absent and the count is as before
+-- the count of faults rose; but that a name is told to be absent is no fault
+abbrev pub MayFail : Told → ℕ → ℕ → Type 0
+MayFail absent before after = after ≡ before
+MayFail untold before after = Rose before after
+MayFail (contents bytes) before after = Rose before after
+
+-- why a call that was given a name failed
 abbrev pub HasCause : FilesView → List ℕ → FilesView → Type 0
-HasCause before name after = Rose before.faults after.faults ⊎ ((before.held name ≡ absent) × (after.faults ≡ before.faults))
+HasCause before name after = MayFail (before.held name) before.faults after.faults
 
 -- the name was not opened
 pub record IsNotOpened (before : FilesView) (name : List ℕ) (after : FilesView) : Type 0 where

@@ -1,7 +1,6 @@
 -- Files and a sink in memory, which fail the calls that they are told to fail.
 use Rattle.std.specs.Prelude.{ℕ, Bool, List, [], ◌∷◌, Option, Some, cond, nat_eq, bytes_eq}
 use Rattle.std.specs.List.{list_any}
-use Rattle.outside_io.specs.Faults.{raised}
 use Rattle.outside_io.specs.Files.{Told, absent, contents, FilesView}
 use Rattle.outside_io.specs.Sinks.{SinkView}
 
@@ -37,10 +36,6 @@ files_state files = record {
 -- the call with this number is to fail
 abbrev pub is_listed : ℕ → List ℕ → Bool
 is_listed call failing = list_any (λ listed. nat_eq listed call) failing
-
--- after a call, which was a fault where it failed
-abbrev pub counted : MemoryFilesView → Bool → MemoryFilesView
-counted files fails = record files { calls = raised files.calls 1; faults = cond fails (raised files.faults 1) files.faults }
 
 pub record MemorySinkView : Type 0 where
   pub written : List ℕ

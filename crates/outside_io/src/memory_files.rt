@@ -1,9 +1,9 @@
 //! Files in memory.
 
 ghost use Rattle.std.specs.Prelude.{◌≡◌, ◌⊎◌, ◌↔◌, ◌+◌, ◌<◌, ◌≤◌, ◌++◌, true, false, None, [], length, drop, map, slice_range, IfSome, IsErr, IsTrue, MatchResult, MatchOption};
-ghost use Rattle.outside_io.specs.Faults.{Rose};
+ghost use Rattle.outside_io.specs.Faults.{raised};
 ghost use Rattle.outside_io.specs.Files.{absent, contents, IsOpened, IsNotOpened, IsRead, IsNotRead};
-ghost use Rattle.outside_io.specs.Memory.{files_state, told_by, is_listed, counted};
+ghost use Rattle.outside_io.specs.Memory.{files_state, told_by, is_listed};
 ghost use Rattle.outside_io.specs.Entries.{entry_view, place_bytes};
 
 use crate::files::Files;
@@ -30,14 +30,14 @@ impl Model for MemoryFiles {
     ghost Value = { MemoryFilesView };
 
     ghost view = { λ a. record {
-        entries = map entry_view a.entries.items;
-        failing = a.failing.items;
-        calls = a.calls;
-        current = option_and_then (place_bytes a.entries.items) a.current;
-        taken = a.taken;
-        ready = is_some a.current;
-        faults = a.faults;
-        opens = a.opens;
+      entries = map entry_view a.entries.items;
+      failing = a.failing.items;
+      calls = a.calls;
+      current = option_and_then (place_bytes a.entries.items) a.current;
+      taken = a.taken;
+      ready = is_some a.current;
+      faults = a.faults;
+      opens = a.opens;
     } };
 
     ghost invariant = { λ a. IsTaken a.entries.items a.current a.taken };
@@ -86,20 +86,14 @@ impl MemoryFiles {
         }
     }
 
-    /// Counts a call, and says whether it is to fail, which is a fault then.
-    fn fails(&mut self) -> bool
+    /// Counts a call, and says whether it is to fail.
+    fn is_to_fail(&mut self) -> bool
         ensures listed { result ≡ is_listed self.old.calls self.old.failing }
-        ensures counted { self.new ≡ counted self.old result }
-        ensures fault { IsTrue result → Rose self.old.faults self.new.faults }
-        ensures never_falls { self.old.faults ≤ self.new.faults }
+        ensures counted { self.new ≡ record self.old { calls = raised self.old.calls 1 } }
     {
         let call = self.calls;
         self.calls = self.calls.saturating_add(1);
-        let fails = self.failing.contains(&call);
-        if fails {
-            self.faults = self.faults.saturating_add(1);
-        }
-        fails
+        self.failing.contains(&call)
     }
 }
 
@@ -110,19 +104,21 @@ impl Files for MemoryFiles {
         ensures open { MatchResult result (λ _. IsOpened (files_state self.old) name.now (files_state self.new)) (λ _. IsNotOpened (files_state self.old) name.now (files_state self.new)) }
         ensures exact { IsErr result ↔ (IsTrue (is_listed self.old.calls self.old.failing) ⊎ (told_by self.old.entries name.now ≡ absent)) }
     {
-        let fails = self.fails();
+        let fails = self.is_to_fail();
         let place = place_of(&self.entries, name);
         self.opens = self.opens.saturating_add(1);
+        self.current = None;
         self.taken = 0;
         match place {
             Some(place) if !fails => {
                 self.current = Some(place);
                 Ok(())
             }
-            _ => {
-                self.current = None;
+            Some(_) => {
+                self.faults = self.faults.saturating_add(1);
                 Err(Failed)
             }
+            None => Err(Failed),
         }
     }
 
@@ -131,7 +127,8 @@ impl Files for MemoryFiles {
         ensures read { MatchResult result (λ count. IsRead (files_state self.old) into.old into.new count (files_state self.new)) (λ _. IsNotRead (files_state self.old) (files_state self.new)) }
         ensures exact { IsErr result ↔ IsTrue (is_listed self.old.calls self.old.failing) }
     {
-        if self.fails() {
+        if self.is_to_fail() {
+            self.faults = self.faults.saturating_add(1);
             return Err(Failed);
         }
         let count = match self.current {

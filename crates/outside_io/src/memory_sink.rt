@@ -28,12 +28,12 @@ impl Model for MemorySink {
     ghost Value = { MemorySinkView };
 
     ghost view = { λ a. record {
-        written = a.bytes.items;
-        most = a.most;
-        room = vec_capacity a.bytes - vec_len a.bytes;
-        failing = a.failing.items;
-        calls = a.calls;
-        faults = a.faults;
+      written = a.bytes.items;
+      most = a.most;
+      room = vec_capacity a.bytes - vec_len a.bytes;
+      failing = a.failing.items;
+      calls = a.calls;
+      faults = a.faults;
     } };
 
     ghost invariant = { λ a. 1 ≤ a.most };

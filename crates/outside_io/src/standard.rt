@@ -13,17 +13,17 @@ use std::rt::Files as SystemFiles;
 /// Files of the system, opened by path. Nothing is told of what they contain: each error is counted as a fault, one for an
 /// absent name too.
 #[derive(Drop)]
-pub struct StdFiles<R: SystemFiles + Drop> {
-    system: R,
+pub struct StdFiles<'a, R: SystemFiles> {
+    system: &'a R,
     current: Option<R::File>,
     taken: u64,
     faults: u64,
     opens: u64,
 }
 
-impl<R: SystemFiles + Drop> StdFiles<R> {
+impl<'a, R: SystemFiles> StdFiles<'a, R> {
     /// Files of the system, none of which is open.
-    pub fn new(system: R) -> StdFiles<R> {
+    pub fn new(system: &'a R) -> StdFiles<'a, R> {
         StdFiles {
             system,
             current: None,
@@ -34,15 +34,16 @@ impl<R: SystemFiles + Drop> StdFiles<R> {
     }
 }
 
-impl<R: SystemFiles + Drop> Files for StdFiles<R> {
+impl<R: SystemFiles> Files for StdFiles<'_, R> {
     ghost use Rattle.std.specs.Prelude.{is_some};
+
     ghost state = { λ files. record { held = (λ _. untold); current = None; taken = files.taken; ready = is_some files.current; faults = files.faults; opens = files.opens } };
 
     fn open(&mut self, name: &str) -> Result<(), Failed> {
         self.opens = self.opens.saturating_add(1);
         self.current = None;
         self.taken = 0;
-        match fs::open(&self.system, name) {
+        match fs::open(self.system, name) {
             Ok(file) => {
                 self.current = Some(file);
                 Ok(())

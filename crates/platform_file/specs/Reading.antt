@@ -32,7 +32,7 @@ abbrev pub lone_node_of : List ℕ → Members → Option PlatformView
 lone_node_of master node =
     cond (has_other_key node_keys node) None
     (option_and_then (λ name. cond (bytes_eq name master && is_name name)
-        (option_map (lone_platform name) (option_and_then whole_time (integer_at (codes "time") node))) None)
+    (option_map (lone_platform name) (option_and_then whole_time (integer_at (codes "time") node))) None)
     (text_at (codes "name") node))
 
 -- the version is 1
@@ -46,8 +46,8 @@ abbrev pub lone_master_of : Members → Option PlatformView
 lone_master_of document =
     cond (has_other_key top_keys document) None
     (cond (is_version_one (integer_at (codes "version") document))
-        (option_and_then (λ master. option_and_then (lone_node_of master) (only_table_at (codes "node") document)) (text_at (codes "master") document))
-        None)
+    (option_and_then (λ master. option_and_then (lone_node_of master) (only_table_at (codes "node") document)) (text_at (codes "master") document))
+    None)
 
 -- other forms of a platform aren't read yet
 abbrev pub platform_of_document : Option Members → Result PlatformView PlatformFault

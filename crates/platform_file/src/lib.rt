@@ -6,6 +6,8 @@ mod fault;
 mod platform;
 mod reading;
 mod scaling;
+#[cfg(test)]
+mod tests;
 mod ticks;
 
 pub use fault::{Kind, PlatformFault};

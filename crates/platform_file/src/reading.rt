@@ -52,11 +52,7 @@ fn lone_node(alloc: Global, master: &str, node: &Table) -> Result<Option<Platfor
         None => None,
     };
     match time {
-        Some(time) => Ok(Some(Platform::lone_master(
-            alloc,
-            name,
-            Ratio::from(u128::from(time)),
-        )?)),
+        Some(time) => Ok(Some(Platform::lone_master(alloc, name, Ratio::from(u128::from(time)))?)),
         None => Ok(None),
     }
 }

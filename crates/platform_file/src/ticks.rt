@@ -28,7 +28,12 @@ impl Model for Timed {
 
 impl Timed {
     /// A platform with its unit, times and costs in ticks.
-    pub(crate) fn new(platform: Platform, unit: u64, times: Listed<Option<u64>>, costs: Listed<u64>) -> Timed
+    pub(crate) fn new(
+        platform: Platform,
+        unit: u64,
+        times: Listed<Option<u64>>,
+        costs: Listed<u64>,
+    ) -> Timed
         requires { IsTimed (record { platform = platform; unit = unit; times = times; costs = costs }) }
         ensures { result ≡ record { platform = platform; unit = unit; times = times; costs = costs } }
     {

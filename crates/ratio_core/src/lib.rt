@@ -2,5 +2,7 @@
 #![tactic(auto)]
 
 mod ratio;
+#[cfg(test)]
+mod tests;
 
 pub use ratio::{Ratio, gcd};

@@ -1,3 +1,5 @@
 pub mod PortTime
 pub mod Durations
 pub mod Ports
+pub mod Evaluator
+pub mod Examples

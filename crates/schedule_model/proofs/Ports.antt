@@ -15,7 +15,7 @@ port_fits : (t : TimedView) (series : Series) (s : Schedule) (uses : Op → Bool
 port_fits t series s uses timed fine single =
     let lasts : Op → ℕ = duration_of t s.ticks_per_unit in
     no_more _ _ (port_time_fits uses start_of lasts s.length 0 s.ops (omega arith) (from_zero uses start_of lasts s.ops) (in_order uses start_of lasts s.ops fine.in_order)
-        (each_lasts t timed series s fine) fine.in_time single)
+    (each_lasts t timed series s fine) fine.in_time single)
   where
     no_more : (a b : ℕ) → a + 0 ≤ b → a ≤ b
     no_more a b h = omega arith

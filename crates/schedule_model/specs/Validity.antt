@@ -1,6 +1,6 @@
 -- Which schedules a platform can carry out, and what they complete.
 -- Source: Beaumont, Legrand and Robert; the ticks and the form of a list are this project's.
-use Rattle.std.specs.Prelude.{◌≡◌, ℕ, ◌+◌, ◌%◌, ◌<◌, ◌≤◌, ◌≢◌, false, ◌&&◌, List, [], ◌∷◌, length, min, None, slice_index, slice_index_or, All, count_by, IsSome}
+use Rattle.std.specs.Prelude.{◌≡◌, ℕ, ◌+◌, ◌%◌, ◌<◌, ◌≤◌, ◌≢◌, false, ◌&&◌, List, [], ◌∷◌, length, min, None, slice_get, slice_index_or, All, count_by, IsSome, IfSome}
 use Rattle.std.specs.List.Sorted.{IsNonDecreasingBy}
 use Rattle.platform_file.specs.Platform.{is_master}
 use Rattle.platform_file.specs.Ticks.{TimedView}
@@ -20,7 +20,7 @@ IsInRange t Scatter (Compute node start) = ⊥
 
 -- no target sends messages of its own kind
 abbrev pub KeepsOwn : TimedView → Series → Op → Type 0
-KeepsOwn t Scatter (Send link kind start) = sender_of t link ≢ slice_index t.platform.targets kind
+KeepsOwn t Scatter (Send link kind start) = IfSome (slice_get t.platform.targets kind) (λ target. sender_of t link ≢ target)
 KeepsOwn t series op = Unit {0}
 
 -- a list of operations that the platform has, by their starts, all over by the end

@@ -13,5 +13,4 @@ pub fn ports_have_time()
     ensures sends { (t : TimedView) (series : Series) (s : Schedule) (node : ℕ) → IsTimed t → IsValid t series s → send_ticks t s node ≤ s.length }
     ensures receives { (t : TimedView) (series : Series) (s : Schedule) (node : ℕ) → IsTimed t → IsValid t series s → receive_ticks t s node ≤ s.length }
     ensures computes { (t : TimedView) (series : Series) (s : Schedule) (node : ℕ) → IsTimed t → IsValid t series s → compute_ticks t s node ≤ s.length }
-{
-}
+{}

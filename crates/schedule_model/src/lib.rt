@@ -3,6 +3,8 @@
 
 mod laws;
 mod schedule;
+#[cfg(test)]
+mod tests;
 
 pub use laws::ports_have_time;
 pub use schedule::{Op, Schedule, Series};

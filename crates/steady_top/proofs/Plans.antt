@@ -91,7 +91,7 @@ refused_file words before name refusal command refused = record {
 
 pub fault_is_cause : (words : List (List ℕ)) (before after : FilesView) (name : List ℕ) (refusal : Refusal) → command_of words ≡ Some (plan name) →
     IsPlanFault before name after refusal → IsCause words before after refusal
-fault_is_cause words before after name usage command fault = refused_file words before name usage command fault
+fault_is_cause words before after name usage command fault = absurd fault
 fault_is_cause words before after name (limit kind found) command fault = refused_file words before name (limit kind found) command fault
 fault_is_cause words before after name not_toml command fault = refused_file words before name not_toml command fault
 fault_is_cause words before after name form_not_yet command fault = refused_file words before name form_not_yet command fault
@@ -101,14 +101,6 @@ fault_is_cause words before after name (cannot_read named) command fault = recor
   one_open = fault.one_open;
 }
 fault_is_cause words before after name no_memory command fault = tt
-
--- words that are no command are refused, whatever the files are
-pub no_command_is_usage : (words : List (List ℕ)) (before : FilesView) → command_of words ≡ None → IsToRefuse words before usage
-no_command_is_usage words before none = record {
-  files = λ other. chosen (before.held other) [];
-  told = λ other. chosen_may_be (before.held other) [];
-  outcome = rw none refl;
-}
 
 -- what holds of a result's value and of its error
 pub both_ways : {A E : Type 0} {P P' : A → Type 0} {Q Q' : E → Type 0} (r : Result A E) → ((x : A) → P x → P' x) → ((e : E) → Q e → Q' e) →

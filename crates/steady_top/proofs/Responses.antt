@@ -1,7 +1,7 @@
 -- What a response of the program says of each status.
 use Rattle.std.proofs.Common.{◌≡◌, ◌∙◌, ℕ, List, Option, Some, None, ◌⊎◌, inl, inr, refl, sym, ap}
 use Rattle.outside_io.specs.Faults.{Rose}
-use Rattle.outside_io.specs.Files.{Told, untold, absent, contents, FilesView}
+use Rattle.outside_io.specs.Files.{Told, untold, absent, contents, FilesView, MayFail}
 use Rattle.outside_io.specs.Sinks.{SinkView}
 use Rattle.steady_top.specs.declared.status.Status.{Status}
 use Rattle.steady_top.specs.declared.status.Status.TheVariants as status
@@ -86,16 +86,19 @@ absent_outcome words before name command none holds told =
     let nothing : holds name ≡ None = rw none at (told name) in
     rw (command, nothing) refl
 
+no_fault : (told : Told) (before after : ℕ) → (Rose before after → ⊥) → MayFail told before after → told ≡ absent
+no_fault untold before after calm h = absurd (calm h)
+no_fault absent before after calm h = refl
+no_fault (contents bytes) before after calm h = absurd (calm h)
+
 cause_is_outcome : (words : List (List ℕ)) (before after : FilesView) (refusal : Refusal) → (Rose before.faults after.faults → ⊥) →
     IsCause words before after refusal → (refusal ≡ no_memory) ⊎ IsOutcome words before refusal
-cause_is_outcome words before after usage calm cause = inr (refused_outcome words before usage cause)
+cause_is_outcome words before after usage calm cause = inr (λ holds told. rw cause refl)
 cause_is_outcome words before after (limit kind found) calm cause = inr (refused_outcome words before (limit kind found) cause)
 cause_is_outcome words before after not_toml calm cause = inr (refused_outcome words before not_toml cause)
 cause_is_outcome words before after form_not_yet calm cause = inr (refused_outcome words before form_not_yet cause)
-cause_is_outcome words before after (cannot_read name) calm cause = elim cause.cause [
-    | inl rose ↦ absurd (calm rose)
-    | inr none ↦ inr (absent_outcome words before name cause.command none.0)
-  ]
+cause_is_outcome words before after (cannot_read name) calm cause =
+    inr (absent_outcome words before name cause.command (no_fault (before.held name) _ _ calm cause.cause))
 cause_is_outcome words before after no_memory calm cause = inl refl
 
 module _ (words : List (List ℕ)) (before after : FilesView) (empty full : SinkView) (result : Status) (response : IsResponse words before after empty full result) where

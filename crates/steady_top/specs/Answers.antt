@@ -57,7 +57,7 @@ pub record IsReadFault (words : List (List ℕ)) (before after : FilesView) (nam
 abbrev pub IsCause : List (List ℕ) → FilesView → FilesView → Refusal → Type 0
 IsCause words before after (cannot_read name) = IsReadFault words before after name
 IsCause words before after no_memory = Unit {0}
-IsCause words before after usage = IsToRefuse words before usage
+IsCause words before after usage = command_of words ≡ None
 IsCause words before after (limit kind found) = IsToRefuse words before (limit kind found)
 IsCause words before after not_toml = IsToRefuse words before not_toml
 IsCause words before after form_not_yet = IsToRefuse words before form_not_yet

@@ -36,11 +36,11 @@ pub record IsFileFault (before : FilesView) (name : List ℕ) (after : FilesView
   pub cause : HasCause before name after
   pub one_open : after.opens ≡ raised before.opens 1
 
--- why there is no plan
+-- why there is no plan: of the file alone, never of the words
 abbrev pub IsPlanFault : FilesView → List ℕ → FilesView → Refusal → Type 0
 IsPlanFault before name after (cannot_read named) = IsFileFault before name after named
 IsPlanFault before name after no_memory = Unit {0}
-IsPlanFault before name after usage = IsFileRefused before name usage
+IsPlanFault before name after usage = ⊥
 IsPlanFault before name after (limit kind found) = IsFileRefused before name (limit kind found)
 IsPlanFault before name after not_toml = IsFileRefused before name not_toml
 IsPlanFault before name after form_not_yet = IsFileRefused before name form_not_yet

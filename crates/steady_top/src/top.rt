@@ -40,7 +40,7 @@ fn finish<S: Sink>(out: &mut S, text: &[u8], status: Status) -> Status
 }
 
 /// Writes the refusal's error line; without memory for it, that of want of memory.
-fn refuse<S: Sink>(alloc: Global, fault: &TopFault, out: &mut S) -> Status
+pub fn refuse<S: Sink>(alloc: Global, fault: &TopFault, out: &mut S) -> Status
     ensures { IsOneOf (refusal_of fault.now) no_memory (λ refusal. Ends (status_of refusal) (error_line refusal) (S.state out.old) (S.state out.new) result) }
 {
     match fault.line(alloc) {

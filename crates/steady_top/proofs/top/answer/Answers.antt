@@ -1,6 +1,6 @@
 use Rattle.std.proofs.Common.{sym, map, string_bytes}
 use Rattle.steady_top.specs.Faults.{refusal_of}
-use Rattle.steady_top.proofs.Plans.{plan_is_answer, fault_is_cause, no_command_is_usage, both_ways}
+use Rattle.steady_top.proofs.Plans.{plan_is_answer, fault_is_cause, both_ways}
 use Rattle.steady_top.proofs.top.answer.Goals as goal
 
 pub returns-in-Some : goal.returns-in-Some
@@ -12,4 +12,4 @@ returns-in-Some g c =
     (λ fault cause. fault_is_cause words before after c.in-Some.name.now (refusal_of fault) (sym c.in-Some.ensures) cause) c.plan.ensures
 
 pub returns-in-None : goal.returns-in-None
-returns-in-None g c = no_command_is_usage _ _ (sym c.in-None.ensures)
+returns-in-None g c = sym c.in-None.ensures

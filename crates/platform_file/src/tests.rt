@@ -1,0 +1,81 @@
+use crate::{Kind, PlatformFault, read_platform, timed};
+use std::test::Fail;
+
+#[test]
+fn reads_a_lone_master(rt: HostRuntime) -> Result<(), Fail> {
+    let alloc = rt.alloc();
+    let text = "version = 1\nmaster = \"m-1\"\nnode = [{name = \"m-1\", time = 1000000}]\n";
+    let platform = read_platform(alloc, text.as_bytes())?;
+    assert_eq!(rt; platform.nodes().len(), 1);
+    assert!(rt; platform.links().is_empty() && platform.targets().is_empty());
+    assert!(rt; platform.is_master(0));
+    assert_eq!(rt; platform.nodes()[0].name().as_str(), "m-1");
+    let timed = timed(alloc, platform)?;
+    assert_eq!(rt; (timed.unit(), timed.time(0)), (1, Some(1000000)));
+    Ok(())
+}
+
+#[test]
+fn refuses_other_texts(rt: HostRuntime) -> Result<(), Fail> {
+    let alloc = rt.alloc();
+    for (text, fault) in [
+        ("version = 1\nnode = [{name", PlatformFault::NotToml),
+        ("", PlatformFault::FormNotYet),
+        (
+            "version = 2\nmaster = \"m\"\nnode = [{name = \"m\", time = 2}]",
+            PlatformFault::FormNotYet,
+        ),
+        (
+            "version = 1\nmaster = \"n\"\nnode = [{name = \"m\", time = 2}]",
+            PlatformFault::FormNotYet,
+        ),
+        (
+            "version = 1\nmaster = \"m\"\nnode = [{name = \"m\", time = 0}]",
+            PlatformFault::FormNotYet,
+        ),
+        (
+            "version = 1\nmaster = \"m\"\nnode = [{name = \"m\", time = 1000001}]",
+            PlatformFault::FormNotYet,
+        ),
+        (
+            "version = 1\nmaster = \"m\"\nnode = [{name = \"m\", time = -1}]",
+            PlatformFault::FormNotYet,
+        ),
+        (
+            "version = 1\nmaster = \"m\"\nnode = [{name = \"m\", time = \"3/2\"}]",
+            PlatformFault::FormNotYet,
+        ),
+        (
+            "version = 1\nmaster = \"m\"\nnode = [{name = \"m\", time = 2, cost = 1}]",
+            PlatformFault::FormNotYet,
+        ),
+        (
+            "version = 1\nmaster = \"m\"\nnode = [{name = \"m\", time = 2}, {name = \"w\"}]",
+            PlatformFault::FormNotYet,
+        ),
+        (
+            "version = 1\nmaster = \"m m\"\nnode = [{name = \"m m\", time = 2}]",
+            PlatformFault::FormNotYet,
+        ),
+        (
+            "version = 1\nmaster = \"m\"\nlink = []\nnode = [{name = \"m\", time = 2}]",
+            PlatformFault::FormNotYet,
+        ),
+    ] {
+        assert_eq!(rt;
+            read_platform(alloc, text.as_bytes()).err(),
+            Some(fault),
+            "{text}"
+        );
+    }
+    assert_eq!(rt;
+        read_platform(alloc, b"\xff").err(),
+        Some(PlatformFault::NotToml)
+    );
+    let long = vec![in alloc; b' '; 1048577]?;
+    assert_eq!(rt;
+        read_platform(alloc, &long).err(),
+        Some(PlatformFault::Limit(Kind::Text, 1048577))
+    );
+    Ok(())
+}
