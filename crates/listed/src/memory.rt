@@ -1,7 +1,5 @@
 //! Want of memory.
 
-ghost use Rattle.std.specs.Prelude.{◌≡◌};
-
 use std::alloc::{AllocError, AllocFailed};
 
 /// Memory ran out. It may come at any point of a call that takes memory, and what the call was lent is then as before.

@@ -1,5 +1,5 @@
 -- The names and contents that files in memory keep.
-use Rattle.std.specs.Prelude.{ℕ, ◌≤◌, List, length, map, Option, MatchOption, option_map, slice_get, String, Vec, string_bytes}
+use Rattle.std.specs.Prelude.{ℕ, ◌≤◌, List, length, Option, MatchOption, option_map, slice_get, String, Vec, string_bytes}
 use Rattle.std.specs.declared.alloc.Global.{Global}
 
 abbrev pub Entry : Type 0

@@ -1,5 +1,5 @@
 -- What is known of an object that opens files by name and reads the one that is open.
-use Rattle.std.specs.Prelude.{◌≡◌, ℕ, ◌+◌, ◌<◌, ◌≤◌, ◌↔◌, Bool, true, false, List, ◌++◌, length, drop, slice_range, Option, Some, None, IfSome, ◌⊎◌}
+use Rattle.std.specs.Prelude.{◌≡◌, ℕ, ◌+◌, ◌<◌, ◌≤◌, ◌↔◌, Bool, true, false, List, ◌++◌, length, drop, slice_range, Option, Some, None, IfSome}
 use Rattle.outside_io.specs.Faults.{Rose, raised}
 
 -- what an object tells of a name: nothing, that there is no such file, or what the file contains

@@ -1,6 +1,6 @@
 //! Files that are opened by name and read one after another.
 
-ghost use Rattle.std.specs.Prelude.{◌≡◌, ◌+◌, ◌-◌, ◌^◌, ◌<◌, ◌≤◌, true, length, min, MatchResult};
+ghost use Rattle.std.specs.Prelude.{◌≡◌, ◌+◌, ◌-◌, ◌^◌, ◌<◌, true, length, min, MatchResult};
 ghost use Rattle.outside_io.specs.Files.{FilesView, IsOpened, IsNotOpened, IsRead, IsNotRead};
 ghost use Rattle.outside_io.specs.Reading.{IsReadOut, IsNotReadOut, IsWholeRead, IsReadEnd};
 ghost use Rattle.outside_io.specs.declared.files.ReadEnd.TheVariants.{NoMemory};

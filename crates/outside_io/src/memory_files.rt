@@ -1,6 +1,6 @@
 //! Files in memory.
 
-ghost use Rattle.std.specs.Prelude.{◌≡◌, ◌⊎◌, ◌↔◌, ◌+◌, ◌<◌, ◌≤◌, ◌++◌, true, false, None, [], length, drop, map, slice_range, IfSome, IsErr, IsTrue, MatchResult, MatchOption};
+ghost use Rattle.std.specs.Prelude.{◌≡◌, ◌⊎◌, ◌↔◌, ◌+◌, ◌<◌, ◌≤◌, ◌++◌, true, false, None, length, drop, map, slice_range, IfSome, IsErr, IsTrue, MatchResult, MatchOption};
 ghost use Rattle.outside_io.specs.Faults.{raised};
 ghost use Rattle.outside_io.specs.Files.{absent, contents, IsOpened, IsNotOpened, IsRead, IsNotRead};
 ghost use Rattle.outside_io.specs.Memory.{files_state, told_by, is_listed};

@@ -1,7 +1,6 @@
 //! A sink in memory.
 
-ghost use Rattle.std.specs.Prelude.{◌≡◌, ◌⊎◌, ◌↔◌, ◌+◌, ◌-◌, ◌<◌, ◌≤◌, [], length, min, OnOk, OnErr, IfOk, IsErr, IsTrue, MatchResult};
-ghost use Rattle.outside_io.specs.Faults.{raised};
+ghost use Rattle.std.specs.Prelude.{◌≡◌, ◌⊎◌, ◌↔◌, ◌<◌, ◌≤◌, [], length, min, OnOk, OnErr, IfOk, IsErr, IsTrue, MatchResult};
 ghost use Rattle.outside_io.specs.Sinks.{IsWritten, IsNotWritten};
 ghost use Rattle.outside_io.specs.Memory.{sink_state, is_listed};
 

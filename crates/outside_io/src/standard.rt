@@ -1,6 +1,6 @@
 //! The trusted edge: files of the system, and a sink over any writer.
 
-ghost use Rattle.std.specs.Prelude.{◌≡◌, None, false};
+ghost use Rattle.std.specs.Prelude.{None};
 ghost use Rattle.outside_io.specs.Files.{untold};
 
 use crate::files::Files;

@@ -1,5 +1,5 @@
 -- A master that stands alone is a platform.
-use Rattle.std.proofs.Common.{◌≡◌, ℕ, true, nat_eq, bytes_eq, [], ◌∷◌, List, Some, refl, arith}
+use Rattle.std.proofs.Common.{◌≡◌, ℕ, true, nat_eq, bytes_eq, [], ◌∷◌, List, Some, arith}
 use Rattle.std.specs.List.{IsDistinct}
 use Rattle.std.proofs.lemmas.List.Elements.{All-cons, All-nil}
 use Rattle.std.proofs.lemmas.Map.Keys.{IsDistinct-cons}

@@ -1,7 +1,7 @@
 -- Platforms whose times and costs are counted in ticks. Source: this project; the papers count in rational time.
 use Rattle.std.specs.Prelude.{◌≡◌, ℕ, ◌*◌, ◌/◌, ◌%◌, ◌^◌, ◌≤◌, List, ◌++◌, map, flat_map, All, Option, IfSome, option_map, option_to_list}
 use Rattle.ratio_core.specs.Fraction.{Fraction}
-use Rattle.platform_file.specs.Platform.{NodeView, PlatformView, IsPlatform}
+use Rattle.platform_file.specs.Platform.{PlatformView, IsPlatform}
 
 -- a platform, the ticks of a time unit, each node's ticks for a task, and each link's for a task or message
 pub record TimedView : Type 0 where

@@ -12,6 +12,6 @@ mod ticks;
 
 pub use fault::{Kind, PlatformFault};
 pub use platform::{Link, Name, Node, Platform};
-pub use reading::read_platform;
+pub use reading::{MOST_BYTES, read_platform};
 pub use scaling::timed;
 pub use ticks::Timed;

@@ -83,7 +83,7 @@ pub struct Node {
 }
 
 impl Model for Node {
-    ghost use Rattle.platform_file.specs.Platform.{NodeView, IsNode};
+    ghost use Rattle.platform_file.specs.Platform.{NodeView};
 
     ghost Value = { NodeView };
 

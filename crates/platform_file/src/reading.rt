@@ -16,7 +16,7 @@ use std::alloc::Global;
 use toml::Table;
 
 /// A platform's text has at most so many bytes: 1 MiB.
-const MOST_BYTES: u64 = 1048576;
+pub const MOST_BYTES: u64 = 1048576;
 
 /// A whole number of time units from 1 to a million.
 fn whole_time(n: i64) -> Option<u32>

@@ -1,5 +1,5 @@
 -- Every operation of a well-formed schedule lasts at least one tick.
-use Rattle.std.proofs.Common.{◌≡◌, ℕ, zero, suc, ◌+◌, ◌*◌, ◌/◌, ◌%◌, ◌<◌, ◌≤◌, List, length, map, All, Option, Some, None, IsSome, IfSome, unwrap_or, get_or, false, true, refl, sym, ◌∙◌, ap, arith, ◌⊎◌, inl, inr}
+use Rattle.std.proofs.Common.{◌≡◌, ℕ, zero, suc, ◌*◌, ◌/◌, ◌%◌, ◌<◌, ◌≤◌, length, All, Option, Some, None, IsSome, IfSome, unwrap_or, get_or, false, true, ◌∙◌, ap, arith, ◌⊎◌, inl, inr}
 use Rattle.std.proofs.lemmas.List.{length-map}
 use Rattle.std.proofs.Math.Nat.{one-le-mul, div-add-mod}
 use Rattle.std.proofs.Math.ListN.{get_or-eq_default}

@@ -5,3 +5,4 @@ pub mod LoneFits
 pub mod LoneBest
 pub mod Responses
 pub mod Plans
+pub mod Examples

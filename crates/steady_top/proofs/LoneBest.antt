@@ -1,16 +1,15 @@
 -- A lone master's table is best.
-use Rattle.std.proofs.Common.{◌≡◌, ◌≢◌, ℕ, zero, suc, ◌+◌, ◌-◌, ◌*◌, ◌^◌, ◌<◌, ◌≤◌, ◌&&◌, false, nat_eq, [], ◌∷◌, length, Some, count_by, refl, sym, ◌∙◌, arith}
+use Rattle.std.proofs.Common.{◌≡◌, ◌≢◌, ℕ, zero, suc, ◌+◌, ◌*◌, ◌^◌, ◌<◌, ◌≤◌, ◌&&◌, false, nat_eq, [], ◌∷◌, Some, count_by, refl, ◌∙◌, arith}
 use Rattle.std.specs.List.Sorted.{IsNonDecreasingBy}
 use Rattle.std.proofs.lemmas.Bool.Decides.{nat_tests}
 use Rattle.std.proofs.Math.Nat.{mod_self, div_self, mul-le-mul_right}
 use Rattle.platform_file.specs.Platform.{is_master}
 use Rattle.platform_file.specs.Ticks.{TimedView, IsTimed}
-use Rattle.schedule_model.specs.declared.schedule.Op.{Op}
 use Rattle.schedule_model.specs.declared.schedule.Op.TheVariants.{Compute}
 use Rattle.schedule_model.specs.declared.schedule.Series.TheVariants.{Tasking}
 use Rattle.schedule_model.specs.declared.schedule.Schedule.{Schedule}
 use Rattle.schedule_model.specs.Operations.{start_of, end_of, time_of, computes_at, sends_from, sends_to, is_open, is_compute, has_started}
-use Rattle.schedule_model.specs.Validity.{IsInRange, KeepsOwn, IsValid, completed}
+use Rattle.schedule_model.specs.Validity.{IsInRange, KeepsOwn, IsValid}
 use Rattle.schedule_model.specs.Throughput.{compute_ticks}
 use Rattle.steady_top.specs.LoneTables.{lone_table}
 use Rattle.steady_top.specs.TableSchedules.{table_schedule}
@@ -57,7 +56,7 @@ module _ (t : TimedView) (time : ℕ) (alone : t.times ≡ Some time ∷ []) (no
       of_zero : nat_eq 0 0 ≡ false → ⊥
       of_zero h = cc
 
-  valid : (n : ℕ) → IsValid t Tasking (table_schedule t Tasking (lone_table t) n)
+  pub valid : (n : ℕ) → IsValid t Tasking (table_schedule t Tasking (lone_table t) n)
   valid n = record {
     well_formed = record {
       some_unit = unit;

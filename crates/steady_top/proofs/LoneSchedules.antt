@@ -1,5 +1,5 @@
 -- The schedules of a lone master's table: one computation after another.
-use Rattle.std.proofs.Common.{◌≡◌, ℕ, zero, suc, ◌+◌, ◌*◌, ◌<◌, ◌≤◌, Bool, true, false, ◌&&◌, cond, nat_eq, nat_lt, nat_le, List, [], ◌∷◌, ◌++◌, length, map, filter, get_or, Some, Less, refl, sym, ◌∙◌, ap, arith, ◌⊎◌, inl, inr, All, count_by}
+use Rattle.std.proofs.Common.{◌≡◌, ℕ, zero, suc, ◌+◌, ◌*◌, ◌<◌, ◌≤◌, Bool, true, false, ◌&&◌, cond, nat_lt, nat_le, List, [], ◌∷◌, ◌++◌, length, map, get_or, Less, refl, sym, ◌∙◌, ap, arith, ◌⊎◌, inl, inr, All, count_by}
 use Rattle.std.specs.Cmp.{nat_cmp_is}
 use Rattle.std.specs.Ordering.{nat_cmp}
 use Rattle.std.proofs.lemmas.Bool.Decides.{nat_tests}
@@ -10,8 +10,8 @@ use Rattle.schedule_model.specs.declared.schedule.Op.{Op}
 use Rattle.schedule_model.specs.declared.schedule.Op.TheVariants.{Compute}
 use Rattle.schedule_model.specs.declared.schedule.Series.TheVariants.{Tasking}
 use Rattle.schedule_model.specs.Operations.{start_of, time_of}
-use Rattle.steady_top.specs.LoneTables.{lone_route, lone_table}
-use Rattle.steady_top.specs.TableSchedules.{Placed, compute_at, has_arrived, tasks_at, ops_below, period_ops, in_order, put_in_order, table_schedule}
+use Rattle.steady_top.specs.LoneTables.{lone_table}
+use Rattle.steady_top.specs.TableSchedules.{Placed, compute_at, ops_below, period_ops, in_order, put_in_order, table_schedule}
 
 -- k computations at the only node, from the one numbered i on
 abbrev pub placed_from : ℕ → ℕ → ℕ → List Placed

@@ -1,5 +1,5 @@
 -- What is known of a lone master in ticks.
-use Rattle.std.proofs.Common.{◌≡◌, ℕ, ◌*◌, ◌/◌, ◌^◌, ◌<◌, ◌≤◌, length, [], ◌∷◌, List, Option, Some, None, IfSome, get_or, slice_get, refl, sym, ◌∙◌, ap, arith}
+use Rattle.std.proofs.Common.{◌≡◌, ℕ, ◌*◌, ◌/◌, ◌^◌, ◌<◌, ◌≤◌, length, [], ◌∷◌, Some, None, slice_get, sym, ◌∙◌, ap, arith}
 use Rattle.std.proofs.Math.Nat.{mul-le-mul_left, mul-le-mul_right, div-le_self}
 use Rattle.ratio_core.specs.Fraction.{whole}
 use Rattle.platform_file.specs.Platform.{PlatformView}

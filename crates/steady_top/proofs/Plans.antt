@@ -1,5 +1,5 @@
 -- Planning a named file, from what was read of it.
-use Rattle.std.proofs.Common.{◌≡◌, ◌∙◌, ℕ, suc, ◌+◌, ◌<◌, ◌≤◌, nat_lt, false, cond, List, [], length, replicate, Option, Some, None, Result, Ok, Err, MatchResult, refl, sym, ap, arith}
+use Rattle.std.proofs.Common.{◌≡◌, ◌∙◌, ℕ, suc, ◌+◌, ◌<◌, ◌≤◌, nat_lt, false, cond, List, length, replicate, Option, Some, None, Result, Ok, Err, MatchResult, refl, sym, ap, arith}
 use Rattle.std.proofs.lemmas.Bool.{lt-ltb, le-ltb}
 use Rattle.std.proofs.lemmas.List.{length-replicate}
 use Rattle.outside_io.specs.Files.{Told, untold, absent, contents, FilesView}

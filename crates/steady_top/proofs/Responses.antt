@@ -6,8 +6,8 @@ use Rattle.outside_io.specs.Sinks.{SinkView}
 use Rattle.steady_top.specs.declared.status.Status.{Status}
 use Rattle.steady_top.specs.declared.status.Status.TheVariants as status
 use Rattle.steady_top.specs.Refusals.{Refusal, usage, limit, not_toml, form_not_yet, cannot_read, no_memory, status_of, error_line}
-use Rattle.steady_top.specs.Outcomes.{Command, plan, command_of, Outcome, prints, refuses, outcome_of_command, outcome_of}
-use Rattle.steady_top.specs.Answers.{MayBe, IsToldAs, MayBeFiles, AreToldAs, IsToRefuse, IsReadFault, IsCause, IsPrinted, IsBestPrinted, IsRefused, IsPlatformRefused, IsCutShort, IsPrintAttempt, IsRefusalAttempt, IsResponse, IsStatus}
+use Rattle.steady_top.specs.Outcomes.{Command, plan, command_of, prints, refuses, outcome_of_command, outcome_of}
+use Rattle.steady_top.specs.Answers.{MayBe, IsToldAs, MayBeFiles, AreToldAs, IsToRefuse, IsCause, IsPrinted, IsBestPrinted, IsRefused, IsPlatformRefused, IsCutShort, IsResponse, IsStatus}
 
 -- which refusal has which status
 never_done : (refusal : Refusal) → status_of refusal ≡ status.Done → ⊥
@@ -105,25 +105,25 @@ module _ (words : List (List ℕ)) (before after : FilesView) (empty full : Sink
   pub done : result ≡ status.Done → IsPrinted words before after empty full
   done is = elim response [
     | inl attempt ↦ elim attempt.ends [
-        | inl whole ↦ record { text = attempt.text; due = attempt.answer.due; written = whole.1 }
-        | inr cut ↦ let bad = sym is ∙ cut.0 in cc
-      ]
+      | inl whole ↦ record { text = attempt.text; due = attempt.answer.due; written = whole.1 }
+      | inr cut ↦ let bad = sym is ∙ cut.0 in cc
+    ]
     | inr attempt ↦ elim attempt.ends [
-        | inl whole ↦ absurd (never_done attempt.refusal (sym whole.0 ∙ is))
-        | inr cut ↦ let bad = sym is ∙ cut.0 in cc
-      ]
+      | inl whole ↦ absurd (never_done attempt.refusal (sym whole.0 ∙ is))
+      | inr cut ↦ let bad = sym is ∙ cut.0 in cc
+    ]
   ]
 
   pub best : result ≡ status.Done → IsBestPrinted words before empty full
   best is = elim response [
     | inl attempt ↦ elim attempt.ends [
-        | inl whole ↦ record { text = attempt.text; best = attempt.answer.best; written = whole.1 }
-        | inr cut ↦ let bad = sym is ∙ cut.0 in cc
-      ]
+      | inl whole ↦ record { text = attempt.text; best = attempt.answer.best; written = whole.1 }
+      | inr cut ↦ let bad = sym is ∙ cut.0 in cc
+    ]
     | inr attempt ↦ elim attempt.ends [
-        | inl whole ↦ absurd (never_done attempt.refusal (sym whole.0 ∙ is))
-        | inr cut ↦ let bad = sym is ∙ cut.0 in cc
-      ]
+      | inl whole ↦ absurd (never_done attempt.refusal (sym whole.0 ∙ is))
+      | inr cut ↦ let bad = sym is ∙ cut.0 in cc
+    ]
   ]
 
   -- a status that is neither Done nor WriteFault comes of a refusal whose line was written
@@ -131,9 +131,9 @@ module _ (words : List (List ℕ)) (before after : FilesView) (empty full : Sink
   refused not_done not_cut = elim response [
     | inl attempt ↦ elim attempt.ends [ inl whole ↦ absurd (not_done whole.0) | inr cut ↦ absurd (not_cut cut.0) ]
     | inr attempt ↦ elim attempt.ends [
-        | inl whole ↦ (attempt.refusal, whole.0, record { cause = attempt.cause; written = whole.1 })
-        | inr cut ↦ absurd (not_cut cut.0)
-      ]
+      | inl whole ↦ (attempt.refusal, whole.0, record { cause = attempt.cause; written = whole.1 })
+      | inr cut ↦ absurd (not_cut cut.0)
+    ]
   ]
 
   refused_as : (due : Status) → (due ≡ status.Done → ⊥) → (due ≡ status.WriteFault → ⊥) → result ≡ due →
@@ -166,18 +166,18 @@ module _ (words : List (List ℕ)) (before after : FilesView) (empty full : Sink
   pub cut_short : result ≡ status.WriteFault → IsCutShort words before after empty full
   cut_short is = elim response [
     | inl attempt ↦ elim attempt.ends [
-        | inl whole ↦ let bad = sym is ∙ whole.0 in cc
-        | inr cut ↦ record { text = attempt.text; due = inl attempt.answer.due; cut = cut.1 }
-      ]
+      | inl whole ↦ let bad = sym is ∙ whole.0 in cc
+      | inr cut ↦ record { text = attempt.text; due = inl attempt.answer.due; cut = cut.1 }
+    ]
     | inr attempt ↦ elim attempt.ends [
-        | inl whole ↦ absurd (never_write_fault attempt.refusal (sym whole.0 ∙ is))
-        | inr cut ↦
-            record {
-              text = error_line attempt.refusal;
-              due = inr (record { refusal = attempt.refusal; cause = attempt.cause; is_line = refl });
-              cut = cut.1;
-            }
-      ]
+      | inl whole ↦ absurd (never_write_fault attempt.refusal (sym whole.0 ∙ is))
+      | inr cut ↦
+          record {
+            text = error_line attempt.refusal;
+            due = inr (record { refusal = attempt.refusal; cause = attempt.cause; is_line = refl });
+            cut = cut.1;
+          }
+    ]
   ]
 
   pub no_other : IsStatus result
@@ -191,12 +191,12 @@ module _ (words : List (List ℕ)) (before after : FilesView) (empty full : Sink
   complete holds text told outcome calm calm_sink = elim response [
     | inl attempt ↦ elim attempt.ends [ inl whole ↦ inl whole.0 | inr cut ↦ absurd (calm_sink cut.1.cause) ]
     | inr attempt ↦ elim attempt.ends [
-        | inl whole ↦ elim (cause_is_outcome words before after attempt.refusal calm attempt.cause) [
-            | inl memory ↦ inr (whole.0 ∙ ap status_of memory)
-            | inr refused ↦ let bad = sym outcome ∙ refused holds told in cc
-          ]
-        | inr cut ↦ absurd (calm_sink cut.1.cause)
+      | inl whole ↦ elim (cause_is_outcome words before after attempt.refusal calm attempt.cause) [
+        | inl memory ↦ inr (whole.0 ∙ ap status_of memory)
+        | inr refused ↦ let bad = sym outcome ∙ refused holds told in cc
       ]
+      | inr cut ↦ absurd (calm_sink cut.1.cause)
+    ]
   ]
 
   pub exact : (holds : List ℕ → Option (List ℕ)) (refusal : Refusal) → AreToldAs before holds → outcome_of words holds ≡ refuses refusal →
@@ -206,24 +206,24 @@ module _ (words : List (List ℕ)) (before after : FilesView) (empty full : Sink
         let printed = sym outcome ∙ (same_outcome words before holds attempt.answer.due.files told attempt.answer.due.told ∙ attempt.answer.due.outcome) in
         cc
     | inr attempt ↦ elim attempt.ends [
-        | inl whole ↦ elim (cause_is_outcome words before after attempt.refusal calm attempt.cause) [
-            | inl memory ↦ inr (whole.0 ∙ ap status_of memory)
-            | inr refused ↦
-                let both : refuses refusal ≡ refuses attempt.refusal = sym outcome ∙ refused holds told in
-                let one : attempt.refusal ≡ refusal = cc in
-                inl (whole.0 ∙ ap status_of one)
-          ]
-        | inr cut ↦ absurd (calm_sink cut.1.cause)
+      | inl whole ↦ elim (cause_is_outcome words before after attempt.refusal calm attempt.cause) [
+        | inl memory ↦ inr (whole.0 ∙ ap status_of memory)
+        | inr refused ↦
+            let both : refuses refusal ≡ refuses attempt.refusal = sym outcome ∙ refused holds told in
+            let one : attempt.refusal ≡ refusal = cc in
+            inl (whole.0 ∙ ap status_of one)
       ]
+      | inr cut ↦ absurd (calm_sink cut.1.cause)
+    ]
   ]
 
   pub no_command : command_of words ≡ None → (Rose empty.faults full.faults → ⊥) → (result ≡ status.Usage) ⊎ (result ≡ status.NoMemory)
   no_command none calm_sink = elim response [
     | inl attempt ↦ let printed : refuses usage ≡ prints attempt.text = rw none at attempt.answer.due.outcome in cc
     | inr attempt ↦ elim attempt.ends [
-        | inl whole ↦ of_cause attempt.refusal attempt.cause whole.0
-        | inr cut ↦ absurd (calm_sink cut.1.cause)
-      ]
+      | inl whole ↦ of_cause attempt.refusal attempt.cause whole.0
+      | inr cut ↦ absurd (calm_sink cut.1.cause)
+    ]
   ]
     where
       other : (refusal : Refusal) → IsToRefuse words before refusal → usage ≡ refusal

@@ -1,7 +1,7 @@
 -- What an answer of the program says of the words, the files and the sink (this project).
 use Rattle.std.specs.Prelude.{◌≡◌, ℕ, List, Option, Some, None, Ok, ◌⊎◌}
 use Rattle.outside_io.specs.Files.{Told, untold, absent, contents, FilesView, HasCause}
-use Rattle.outside_io.specs.Faults.{Rose, raised}
+use Rattle.outside_io.specs.Faults.{raised}
 use Rattle.outside_io.specs.Sinks.{SinkView, IsWholeWritten, IsCutOff}
 use Rattle.platform_file.specs.Platform.{PlatformView}
 use Rattle.platform_file.specs.Reading.{platform_of, timed_of}
@@ -12,7 +12,7 @@ use Rattle.steady_top.specs.declared.table.Table.{Table}
 use Rattle.steady_top.specs.Best.{IsBest}
 use Rattle.steady_top.specs.PlanText.{plan_text}
 use Rattle.steady_top.specs.Refusals.{Refusal, usage, limit, not_toml, form_not_yet, cannot_read, no_memory, status_of, error_line}
-use Rattle.steady_top.specs.Outcomes.{Command, plan, command_of, Outcome, prints, refuses, outcome_of}
+use Rattle.steady_top.specs.Outcomes.{plan, command_of, prints, refuses, outcome_of}
 
 -- this may be what a name holds of which that is told
 abbrev pub MayBe : Told → Option (List ℕ) → Type 0

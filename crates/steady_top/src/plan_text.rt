@@ -1,6 +1,6 @@
 //! The text of a plan.
 
-ghost use Rattle.std.specs.Prelude.{◌≡◌, ◌≤◌, ◌++◌, IfOk, OnOk, codes, decimal, string_bytes};
+ghost use Rattle.std.specs.Prelude.{◌≡◌, ◌++◌, IfOk, OnOk, codes, decimal, string_bytes};
 ghost use Rattle.platform_file.specs.Reading.{IsLoneMaster};
 ghost use Rattle.schedule_model.specs.declared.schedule.Series.{Series};
 ghost use Rattle.steady_top.specs.LoneTables.{lone_table};

@@ -8,11 +8,8 @@ use crate::fault::TopFault;
 use crate::lone::lone_master_table;
 use crate::plan_text::print_plan;
 use outside_io::{Files, ReadEnd, read_whole};
-use platform_file::{Kind, read_platform, timed};
+use platform_file::{Kind, MOST_BYTES, read_platform, timed};
 use std::alloc::Global;
-
-/// A platform file is read to at most so many bytes and one more: 1 MiB.
-const MOST_BYTES: u64 = 1048576;
 
 /// The plan text of the platform in the named file. The steps that can refuse come in this order: the file, its text, the
 /// platform.

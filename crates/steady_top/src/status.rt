@@ -1,6 +1,6 @@
 //! How the program ends.
 
-ghost use Rattle.std.specs.Prelude.{◌≡◌, ◌<◌};
+ghost use Rattle.std.specs.Prelude.{◌≡◌};
 ghost use Rattle.steady_top.specs.Exits.{exit_code};
 
 /// How the program ends, each with its number, which is the process's exit status.

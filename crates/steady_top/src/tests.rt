@@ -7,7 +7,8 @@ use platforms::{LONE_MASTER, ONE_WORKER};
 use std::alloc::Global;
 use std::test::Fail;
 
-const LONE_PLAN: &str = "plan 1 tasking\nunit 1\nperiod 2\ntasks 1\ndepth 0\nrate 1/2\nroute 0 1 m\nslot 2\nend\n";
+const LONE_PLAN: &str =
+    "plan 1 tasking\nunit 1\nperiod 2\ntasks 1\ndepth 0\nrate 1/2\nroute 0 1 m\nslot 2\nend\n";
 
 /// The words as the program is given them, parted by a bar.
 fn words_of(alloc: Global, line: &str) -> Result<Vec<String>, Fail> {
@@ -48,9 +49,19 @@ fn answers_words_and_files(rt: HostRuntime) -> Result<(), Fail> {
     for (line, text, status, written) in [
         ("plan|P", LONE_MASTER.as_bytes(), Status::Done, LONE_PLAN),
         ("plan|P", ONE_WORKER.as_bytes(), Status::Platform, form),
-        ("plan|P", b"version = 1\nnode = [{name".as_slice(), Status::Platform, not_toml),
+        (
+            "plan|P",
+            b"version = 1\nnode = [{name".as_slice(),
+            Status::Platform,
+            not_toml,
+        ),
         ("plan|P", b"\xff".as_slice(), Status::Platform, not_toml),
-        ("plan|nofile", b"".as_slice(), Status::ReadFault, "error: cannot read nofile\n"),
+        (
+            "plan|nofile",
+            b"".as_slice(),
+            Status::ReadFault,
+            "error: cannot read nofile\n",
+        ),
         ("", b"".as_slice(), Status::Usage, usage),
         ("help", b"".as_slice(), Status::Usage, usage),
         ("plan", b"".as_slice(), Status::Usage, usage),
@@ -80,11 +91,41 @@ fn meets_failing_devices(rt: HostRuntime) -> Result<(), Fail> {
     let lone = LONE_MASTER.as_bytes();
     let cannot_read = "error: cannot read P\n";
     for (failing_files, most, failing_sink, status, written) in [
-        ([9].as_slice(), 10, [1].as_slice(), Status::WriteFault, "plan 1 tas"),
-        ([0].as_slice(), 4096, [9].as_slice(), Status::ReadFault, cannot_read),
-        ([1].as_slice(), 4096, [9].as_slice(), Status::ReadFault, cannot_read),
-        ([2].as_slice(), 4096, [9].as_slice(), Status::ReadFault, cannot_read),
-        ([0].as_slice(), 7, [1].as_slice(), Status::WriteFault, "error: "),
+        (
+            [9].as_slice(),
+            10,
+            [1].as_slice(),
+            Status::WriteFault,
+            "plan 1 tas",
+        ),
+        (
+            [0].as_slice(),
+            4096,
+            [9].as_slice(),
+            Status::ReadFault,
+            cannot_read,
+        ),
+        (
+            [1].as_slice(),
+            4096,
+            [9].as_slice(),
+            Status::ReadFault,
+            cannot_read,
+        ),
+        (
+            [2].as_slice(),
+            4096,
+            [9].as_slice(),
+            Status::ReadFault,
+            cannot_read,
+        ),
+        (
+            [0].as_slice(),
+            7,
+            [1].as_slice(),
+            Status::WriteFault,
+            "error: ",
+        ),
     ] {
         let (ended, out) = answer(alloc, "plan|P", lone, failing_files, most, failing_sink)?;
         assert_eq!(rt; ended, status, "{written}");

@@ -50,12 +50,7 @@ pub fn refuse<S: Sink>(alloc: Global, fault: &TopFault, out: &mut S) -> Status
 }
 
 /// The whole of the work, with all that is known of how it ends.
-fn respond<F: Files, S: Sink>(
-    alloc: Global,
-    words: &[String],
-    files: &mut F,
-    out: &mut S,
-) -> Status
+fn respond<F: Files, S: Sink>(alloc: Global, words: &[String], files: &mut F, out: &mut S) -> Status
     ensures { IsResponse (map string_bytes words.now) (F.state files.old) (F.state files.new) (S.state out.old) (S.state out.new) result }
 {
     match answer(alloc, words, files) {

@@ -1,4 +1,4 @@
-use Rattle.std.proofs.Common.{rules, ◌≡◌, ◌≤◌, ◌<◌, ◌^◌, ◌∙◌, [], ◌∷◌, Some, refl, sym, ap, subst, arith}
+use Rattle.std.proofs.Common.{rules, ◌≡◌, ◌≤◌, ◌<◌, ◌^◌, ◌∙◌, [], ◌∷◌, Some, refl, sym, ap, subst}
 use Rattle.schedule_model.specs.declared.schedule.Series.TheVariants.{Tasking}
 use Rattle.schedule_model.specs.Operations.{time_of}
 use Rattle.steady_top.specs.declared.table.Table.{Table}
@@ -18,4 +18,4 @@ returns-clause-best c =
     let table_is : record { period = c.from-2.result; tasks = 1; depth = 0; routes = c.push.new.self; slots = c.push-2.new.self } ≡ lone_table t = search rules in
     subst (λ (table : Table). IsBest t Tasking table) (sym table_is)
     (lone_best t c.in-Some.ticks alone (no_links t.platform c.requires) (master_is_first t.platform c.requires) some c.known.ensures.some_unit c.known.ensures short
-        (λ s valid. c.ports_have_time.ensures.computes t Tasking s 0 c.known.ensures valid))
+    (λ s valid. c.ports_have_time.ensures.computes t Tasking s 0 c.known.ensures valid))

@@ -1,5 +1,4 @@
 use Rattle.std.proofs.Common.{rules, refl, inl, inr}
-use Rattle.std.proofs.lemmas.Grind.{common_steps}
 use Rattle.outside_io.proofs.memory_sink.MemorySinkSink.write.Goals as goal
 use Rattle.outside_io.proofs.memory_sink.MemorySinkSink.write.Goals.{then-contains-via-then-contains, then-contains-via-else-contains+then-not-is_empty, then-room-eq0, else-room-eq0}
 

@@ -1,4 +1,3 @@
-use Rattle.std.proofs.Common.{rules, ◌≡◌, [], ◌∷◌, Some}
 use Rattle.platform_file.proofs.LonePlatform.{lone_is_platform}
 use Rattle.platform_file.proofs.platform.Platform.lone_master.Goals as goal
 
