@@ -1,6 +1,6 @@
 //! The trusted edge: files of the system, and a sink over any writer.
 
-ghost use Rattle.std.specs.Prelude.{None};
+ghost use Rattle.std.specs.Prelude.{◌≡◌, None};
 ghost use Rattle.outside_io.specs.Files.{untold};
 
 use crate::files::Files;
@@ -22,8 +22,10 @@ pub struct StdFiles<'a, R: SystemFiles> {
 }
 
 impl<'a, R: SystemFiles> StdFiles<'a, R> {
-    /// Files of the system, none of which is open.
-    pub fn new(system: &'a R) -> StdFiles<'a, R> {
+    /// Files of the system, none of which is open, before any call and fault.
+    pub fn new(system: &'a R) -> StdFiles<'a, R>
+        ensures { (result.faults ≡ 0) × (result.opens ≡ 0) × (result.taken ≡ 0) }
+    {
         StdFiles {
             system,
             current: None,
@@ -81,8 +83,10 @@ pub struct StdSink<W: Write + Drop> {
 }
 
 impl<W: Write + Drop> StdSink<W> {
-    /// A sink over a writer, such as standard output.
-    pub fn new(out: W) -> StdSink<W> {
+    /// A sink over a writer, such as standard output, before any fault.
+    pub fn new(out: W) -> StdSink<W>
+        ensures { result.faults ≡ 0 }
+    {
         StdSink { out, faults: 0 }
     }
 }
