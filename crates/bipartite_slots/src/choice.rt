@@ -4,7 +4,7 @@ ghost use Rattle.std.specs.Prelude.{◌≡◌, ℕ, ◌+◌, ◌*◌, ◌<◌, �
 ghost use Rattle.bipartite_slots.specs.Columns.{AreListed};
 ghost use Rattle.bipartite_slots.specs.Squares.{cell, HasEqualSums};
 ghost use Rattle.bipartite_slots.specs.Searches.{holder, is_seen, IsMatching, IsPlaced};
-ghost use Rattle.bipartite_slots.specs.Choices.{IsComplete, Excludes, IsLeastAt, KeepsEarlier, IsFirst, SeesEarlier};
+ghost use Rattle.bipartite_slots.specs.Choices.{IsComplete, Excludes, IsLeastAt, KeepsEarlier, IsFirst, IsHeldBefore, SeesEarlier};
 
 use crate::columns::Columns;
 use crate::search::{place, seat};
@@ -87,10 +87,10 @@ fn exchange(
     ensures unchanged { result ≡ false → holders.new ≡ holders.old }
     ensures excluded { result ≡ false → Excludes square.now.size (cell square.now) holders.old row column }
 {
-    see_earlier(seen, holders, row);
-    if seen[column] {
+    if is_held_before(holders, row, column) {
         return false;
     }
+    see_earlier(seen, holders, row);
     let own = column_of(holders, row);
     holders[own] = None;
     let exchanged = seat(columns, square, row, column, seen, holders);
@@ -143,9 +143,17 @@ fn see_earlier(seen: &mut [bool], holders: &[Option<usize>], row: usize)
     ensures { SeesEarlier holders.now seen.new row }
 {
     for column in 0..seen.len() {
-        seen[column] = match holders[column] {
-            Some(held) => held < row,
-            None => false,
-        };
+        seen[column] = is_held_before(holders, row, column);
+    }
+}
+
+/// Tells whether a row before this one holds the column.
+fn is_held_before(holders: &[Option<usize>], row: usize, column: usize) -> bool
+    requires { column < length holders.now }
+    ensures { IsTrue result ↔ IsHeldBefore holders.now row column }
+{
+    match holders[column] {
+        Some(held) => held < row,
+        None => false,
     }
 }

@@ -1,5 +1,5 @@
 use Rattle.std.proofs.Common.{◌≡◌, ◌≢◌, ℕ, ◌<◌, Some, List, Option, get_or, arith, sym, ◌∙◌, subst, below_more}
-use Rattle.std.proofs.lemmas.Bool.{true≢false}
+use Rattle.std.proofs.lemmas.Bool.{iff_false}
 use Rattle.bipartite_slots.specs.Squares.{cell}
 use Rattle.bipartite_slots.specs.Searches.{holder}
 use Rattle.bipartite_slots.specs.Choices.{Excludes, IsLeastAt, KeepsEarlier}
@@ -33,8 +33,9 @@ returns-then-exchange-clause-least c =
 
 pub loop-column-preserved : goal.loop-column-preserved
 loop-column-preserved c =
-    let not_yet = below_more (λ k. holder c.args.holders.now (get_or c.of-column-items.result.now k 0) ≢ Some c.args.row) c.loop-column.column-index c.loop-column.invariant.not_yet (λ e. absurd (true≢false (sym
-        (c.holds.ensures.1 (subst (λ hs. holder hs (get_or c.of-column-items.result.now c.loop-column.column-index 0) ≡ Some c.args.row) (sym c.loop-column.invariant.unchanged) e)) ∙ c.if-holds.false))) in
+    let not_yet = below_more (λ k. holder c.args.holders.now (get_or c.of-column-items.result.now k 0) ≢ Some c.args.row) c.loop-column.column-index c.loop-column.invariant.not_yet (λ e.
+        iff_false c.holds.ensures c.if-holds.false
+        (subst (λ hs. holder hs (get_or c.of-column-items.result.now c.loop-column.column-index 0) ≡ Some c.args.row) (sym c.loop-column.invariant.unchanged) e)) in
     elim c.else-get-gt0.branch [
       | else-get-gt0-via-then-get-gt0+else-exchange w ↦ record {
           unchanged = w.holders-is ∙ w.exchange.ensures.unchanged w.if-exchange.false ∙ c.loop-column.invariant.unchanged;
