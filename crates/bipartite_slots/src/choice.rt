@@ -44,7 +44,13 @@ fn fill(columns: &Columns, square: &Square, seen: &mut [bool], holders: &mut [Op
 }
 
 /// Gives the row the least column that leaves columns to the rows after it, the rows before it keeping theirs.
-fn settle(columns: &Columns, square: &Square, row: usize, seen: &mut [bool], holders: &mut [Option<usize>])
+fn settle(
+    columns: &Columns,
+    square: &Square,
+    row: usize,
+    seen: &mut [bool],
+    holders: &mut [Option<usize>],
+)
     requires listed { AreListed columns.now square.now.size (cell square.now) }
     requires row { row < square.now.size }
     requires seen { length seen.old ≡ square.now.size }

@@ -1,4 +1,4 @@
-//! Perfect matchings of square matrices with equal row and column sums.
+//! Cuts a period of weighted transfers into slots in which no two share a sender or a receiver.
 #![tactic(auto)]
 
 mod choice;

@@ -10,7 +10,13 @@ use crate::square::Square;
 
 /// Gives the row a column that the search has not seen, moving other rows where that is needed.
 #[cycle(placing)]
-pub fn place(columns: &Columns, square: &Square, row: usize, seen: &mut [bool], holders: &mut [Option<usize>]) -> bool
+pub fn place(
+    columns: &Columns,
+    square: &Square,
+    row: usize,
+    seen: &mut [bool],
+    holders: &mut [Option<usize>],
+) -> bool
     requires listed { AreListed columns.now square.now.size (cell square.now) }
     requires row { row < square.now.size }
     requires seen { length seen.old ≡ square.now.size }

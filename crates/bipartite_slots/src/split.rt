@@ -17,10 +17,20 @@ use crate::weights::{Edge, SlotPart, Weights};
 use listed::{Listed, NoMemory};
 use std::alloc::Global;
 
-/// Splits the weights into parts whose durations sum to the total.
+/// Splits the weights into parts whose durations sum to the total, all in ticks.
 ///
-/// In each part no two edges share a sender or a receiver, and an edge is in parts for as long as its weight.
-/// Each part is the first matching in the order of its receivers, so that equal weights give equal parts.
+/// In each part no two edges share a sender or a receiver, and the parts with an edge last as long as its weight.
+/// There are at most (2 * nodes)² parts. The nodes' weights are filled up to a matrix of twice as many rows and columns,
+/// each of which sums to the total. While time is left, a part is the first perfect matching over the positive cells,
+/// in the order of the rows' columns, and lasts as long as its least cell: so equal weights give equal parts.
+/// Where each row and column has the same sum there is such a matching (Hall; Birkhoff and von Neumann).
+///
+/// One matching is kept and mended: for each part an augmentation for each row that lost its cell, and one for each
+/// column that comes before a row's own. Takes (2 * nodes)² numbers of 16 bytes.
+///
+/// # Errors
+///
+/// `NoMemory` where there is no memory for the matrix or the parts.
 pub fn slots(alloc: Global, weights: &Weights, total: u128) -> Result<Vec<SlotPart>, NoMemory>
     requires some_node { 1 ≤ weights.now.nodes }
     requires few_nodes { weights.now.nodes ≤ 1000 }

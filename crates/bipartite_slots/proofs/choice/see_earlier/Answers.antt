@@ -9,7 +9,7 @@ use Rattle.bipartite_slots.proofs.choice.see_earlier.Goals as goal
 -- one column more has its mark
 sees_more : (holders : List (Option ℕ)) (seen : List Bool) (row end : ℕ) (mark : Bool) → end < length seen → IsTrue mark ↔ IsHeldBefore holders row end →
     SeesSome holders seen row end → SeesSome holders (set seen end mark) row (end + 1)
-sees_more holders seen row end mark inside tells before = record { held = held; marked = marked; }
+sees_more holders seen row end mark inside tells before = record { held = held; marked = marked }
   where
     here : (column : ℕ) → column ≡ end → is_seen (set seen end mark) column ≡ mark
     here column e = subst (λ n. is_seen (set seen end mark) n ≡ mark) (sym e) (get_or-set_same seen end mark false inside)

@@ -1,4 +1,4 @@
-use Rattle.std.proofs.Common.{◌≡◌, ℕ, ◌+◌, ◌<◌, List, arith, ap, sym, ◌∙◌, subst}
+use Rattle.std.proofs.Common.{◌≡◌, ◌+◌, arith, ap, sym, ◌∙◌, subst}
 use Rattle.bipartite_slots.specs.Squares.{cell}
 use Rattle.bipartite_slots.proofs.Cells.{cell_column}
 use Rattle.bipartite_slots.proofs.Listing.{ListsBelow, lists_push, lists_skip, has_positives}

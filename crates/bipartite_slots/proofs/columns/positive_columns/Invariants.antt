@@ -1,5 +1,4 @@
-use Rattle.std.proofs.Common.{ℕ}
-use Rattle.bipartite_slots.specs.Squares.{SquareView, cell}
+use Rattle.bipartite_slots.specs.Squares.{cell}
 use Rattle.bipartite_slots.proofs.Listing.{ListsBelow}
 use Rattle.bipartite_slots.proofs.columns.positive_columns.Given as goal
 

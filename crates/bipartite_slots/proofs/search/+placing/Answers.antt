@@ -53,19 +53,22 @@ seat-place-seated-requires t c =
     let fewer : unseen (set c.args.seen.now c.args.column true) + 1 ≡ unseen c.args.seen.now =
     unseen-set c.args.seen.now c.args.column (omega arith) c.requires.unseen in (
       omega (arith, fewer),
-      (c.requires.listed, (
-        cell_row c.args.square.now c.in-Some.other c.args.column (c.requires.matching.positive c.in-Some.other c.args.column was),
+      (
+        c.requires.listed,
         (
-          omega (arith, length-set c.args.seen.now c.args.column true),
+          cell_row c.args.square.now c.in-Some.other c.args.column (c.requires.matching.positive c.in-Some.other c.args.column was),
           (
-            omega (arith, length-set c.args.holders.now c.args.column (Some c.args.row)),
+            omega (arith, length-set c.args.seen.now c.args.column true),
             (
-              matching_put (cell c.args.square.now) c.args.holders.now c.args.row c.args.column c.requires.matching c.requires.unplaced (omega arith) c.requires.positive,
-              put_out (cell c.args.square.now) c.args.holders.now c.args.row c.args.column c.requires.matching c.requires.unplaced (omega arith) c.in-Some.other was,
+              omega (arith, length-set c.args.holders.now c.args.column (Some c.args.row)),
+              (
+                matching_put (cell c.args.square.now) c.args.holders.now c.args.row c.args.column c.requires.matching c.requires.unplaced (omega arith) c.requires.positive,
+                put_out (cell c.args.square.now) c.args.holders.now c.args.row c.args.column c.requires.matching c.requires.unplaced (omega arith) c.in-Some.other was,
+              ),
             ),
           ),
         ),
-      )),
+      ),
     )
 
 put_back : (holders : List (Option ℕ)) (column row : ℕ) (now : List (Option ℕ)) (displaced : Option ℕ) →
@@ -97,8 +100,11 @@ seat-returns-else-not-seated-clause-placed t c =
 
 pub place-bounds-seen-column : goal.place-bounds-seen-column
 place-bounds-seen-column t c =
-    omega (arith, item_inside c.args.columns.now c.args.square.now.size (cell c.args.square.now) c.requires.listed c.args.row c.of-column-items.result.now c.of-column-items.ensures c.requires.row
-    c.loop-column.column-index c.loop-column-test.true)
+    omega (
+      arith,
+      item_inside c.args.columns.now c.args.square.now.size (cell c.args.square.now) c.requires.listed c.args.row c.of-column-items.result.now c.of-column-items.ensures c.requires.row
+          c.loop-column.column-index c.loop-column-test.true,
+    )
 
 pub place-get-requires-clause-column : goal.place-get-requires-clause-column
 place-get-requires-clause-column t c =

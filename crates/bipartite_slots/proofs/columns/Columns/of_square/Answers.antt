@@ -1,7 +1,7 @@
-use Rattle.std.proofs.Common.{◌≡◌, ℕ, ◌+◌, ◌<◌, List, length, [], ◌∷◌, ◌++◌, map, arith, ap, sym, ◌∙◌, subst}
+use Rattle.std.proofs.Common.{◌≡◌, ◌+◌, length, map, arith, ap, sym, ◌∙◌, subst}
 use Rattle.std.proofs.lemmas.List.{length-map, length_push, map_push}
 use Rattle.bipartite_slots.specs.Squares.{cell}
-use Rattle.bipartite_slots.specs.Columns.{HasPositives, AreListed}
+use Rattle.bipartite_slots.specs.Columns.{HasPositives}
 use Rattle.bipartite_slots.proofs.Listing.{ListsRows, lists_rows_push}
 use Rattle.bipartite_slots.proofs.columns.Columns.of_square.Goals as goal
 

@@ -1,4 +1,4 @@
-use Rattle.std.proofs.Common.{◌≡◌, ℕ, length, map}
+use Rattle.std.proofs.Common.{◌≡◌, length, map}
 use Rattle.bipartite_slots.specs.Squares.{cell}
 use Rattle.bipartite_slots.proofs.Listing.{ListsRows}
 use Rattle.bipartite_slots.proofs.columns.Columns.of_square.Given as goal
