@@ -18,64 +18,28 @@ fn reads_a_lone_master(rt: HostRuntime) -> Result<(), Fail> {
 #[test]
 fn refuses_other_texts(rt: HostRuntime) -> Result<(), Fail> {
     let alloc = rt.alloc();
-    for (text, fault) in [
-        ("version = 1\nnode = [{name", PlatformFault::NotToml),
-        ("", PlatformFault::FormNotYet),
-        (
-            "version = 2\nmaster = \"m\"\nnode = [{name = \"m\", time = 2}]",
-            PlatformFault::FormNotYet,
-        ),
-        (
-            "version = 1\nmaster = \"n\"\nnode = [{name = \"m\", time = 2}]",
-            PlatformFault::FormNotYet,
-        ),
-        (
-            "version = 1\nmaster = \"m\"\nnode = [{name = \"m\", time = 0}]",
-            PlatformFault::FormNotYet,
-        ),
-        (
-            "version = 1\nmaster = \"m\"\nnode = [{name = \"m\", time = 1000001}]",
-            PlatformFault::FormNotYet,
-        ),
-        (
-            "version = 1\nmaster = \"m\"\nnode = [{name = \"m\", time = -1}]",
-            PlatformFault::FormNotYet,
-        ),
-        (
-            "version = 1\nmaster = \"m\"\nnode = [{name = \"m\", time = \"3/2\"}]",
-            PlatformFault::FormNotYet,
-        ),
-        (
-            "version = 1\nmaster = \"m\"\nnode = [{name = \"m\", time = 2, cost = 1}]",
-            PlatformFault::FormNotYet,
-        ),
-        (
-            "version = 1\nmaster = \"m\"\nnode = [{name = \"m\", time = 2}, {name = \"w\"}]",
-            PlatformFault::FormNotYet,
-        ),
-        (
-            "version = 1\nmaster = \"m m\"\nnode = [{name = \"m m\", time = 2}]",
-            PlatformFault::FormNotYet,
-        ),
-        (
-            "version = 1\nmaster = \"m\"\nlink = []\nnode = [{name = \"m\", time = 2}]",
-            PlatformFault::FormNotYet,
-        ),
+    for text in [
+        "",
+        "version = 2\nmaster = \"m\"\nnode = [{name = \"m\", time = 2}]",
+        "version = 1\nmaster = \"n\"\nnode = [{name = \"m\", time = 2}]",
+        "version = 1\nmaster = \"m\"\nnode = [{name = \"m\", time = 0}]",
+        "version = 1\nmaster = \"m\"\nnode = [{name = \"m\", time = 1000001}]",
+        "version = 1\nmaster = \"m\"\nnode = [{name = \"m\", time = -1}]",
+        "version = 1\nmaster = \"m\"\nnode = [{name = \"m\", time = \"3/2\"}]",
+        "version = 1\nmaster = \"m\"\nnode = [{name = \"m\", time = 2, cost = 1}]",
+        "version = 1\nmaster = \"m\"\nnode = [{name = \"m\", time = 2}, {name = \"w\"}]",
+        "version = 1\nmaster = \"m m\"\nnode = [{name = \"m m\", time = 2}]",
+        "version = 1\nmaster = \"m\"\nlink = []\nnode = [{name = \"m\", time = 2}]",
     ] {
-        assert_eq!(rt;
-            read_platform(alloc, text.as_bytes()).err(),
-            Some(fault),
-            "{text}"
-        );
+        let fault = read_platform(alloc, text.as_bytes()).err();
+        assert_eq!(rt; fault, Some(PlatformFault::FormNotYet), "{text}");
     }
-    assert_eq!(rt;
-        read_platform(alloc, b"\xff").err(),
-        Some(PlatformFault::NotToml)
-    );
+    for text in [b"version = 1\nnode = [{name".as_slice(), b"\xff".as_slice()] {
+        let fault = read_platform(alloc, text).err();
+        assert_eq!(rt; fault, Some(PlatformFault::NotToml));
+    }
     let long = vec![in alloc; b' '; 1048577]?;
-    assert_eq!(rt;
-        read_platform(alloc, &long).err(),
-        Some(PlatformFault::Limit(Kind::Text, 1048577))
-    );
+    let fault = read_platform(alloc, &long).err();
+    assert_eq!(rt; fault, Some(PlatformFault::Limit(Kind::Text, 1048577)));
     Ok(())
 }

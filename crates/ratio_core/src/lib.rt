@@ -4,5 +4,7 @@
 mod ratio;
 #[cfg(test)]
 mod tests;
+mod text;
 
-pub use ratio::{Ratio, gcd};
+pub use ratio::{Ratio, gcd, lcm_within};
+pub use text::{RatioFault, parse_ratio};

@@ -1,8 +1,9 @@
 //! Fractions in lowest terms.
 
-ghost use Rattle.std.specs.Prelude.{◌≡◌, ◌≤◌};
+ghost use Rattle.std.specs.Prelude.{◌≡◌, ℕ, ◌<◌, ◌≤◌, None, IfSome};
 ghost use Rattle.std.specs.Int.{IsGcd};
 ghost use Rattle.ratio_core.specs.Fraction.{reduced, gcd_of};
+ghost use Rattle.ratio_core.specs.Multiples.{IsLeastCommonMultiple};
 
 use std::marker::Model;
 
@@ -14,6 +15,23 @@ pub fn gcd(a: u128, b: u128) -> u128
     ensures value { result ≡ gcd_of a b }
 {
     if b == 0 { a } else { gcd(b, a % b) }
+}
+
+/// The least common multiple of two numbers, where it is at most `max`.
+///
+/// Takes one greatest common divisor and two divisions.
+pub fn lcm_within(a: u128, b: u128, max: u128) -> Option<u128>
+    requires first { 1 ≤ a }
+    requires second { 1 ≤ b }
+    ensures within { IfSome result (λ multiple. IsLeastCommonMultiple a b multiple × (multiple ≤ max)) }
+    ensures beyond { result ≡ None → (multiple : ℕ) → IsLeastCommonMultiple a b multiple → max < multiple }
+{
+    let share = a / gcd(a, b);
+    if share <= max / b {
+        Some(share * b)
+    } else {
+        None
+    }
 }
 
 /// A fraction in lowest terms, with a denominator of at least 1; zero is 0/1.

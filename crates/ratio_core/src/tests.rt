@@ -1,4 +1,4 @@
-use crate::{Ratio, gcd};
+use crate::{Ratio, RatioFault, gcd, lcm_within, parse_ratio};
 
 #[test]
 fn reduces(rt: HostRuntime) {
@@ -11,4 +11,44 @@ fn reduces(rt: HostRuntime) {
     }
     let three = Ratio::from(3u128);
     assert_eq!(rt; (three.num(), three.den()), (3, 1));
+}
+
+#[test]
+fn finds_least_common_multiples(rt: HostRuntime) {
+    for (a, b, max, multiple) in [
+        (4, 6, 12, Some(12)),
+        (4, 6, 11, None),
+        (1, 1, 1, Some(1)),
+        (7, 7, 0, None),
+        (u128::MAX, u128::MAX, u128::MAX, Some(u128::MAX)),
+        (u128::MAX, 2, u128::MAX, None),
+    ] {
+        assert_eq!(rt; lcm_within(a, b, max), multiple, "{a} and {b} within {max}");
+    }
+}
+
+#[test]
+fn reads_fractions(rt: HostRuntime) {
+    for (text, num, den) in [
+        ("7", 7, 1),
+        ("007", 7, 1),
+        ("3/2", 3, 2),
+        ("6/04", 3, 2),
+        ("1000000/1", 1000000, 1),
+        ("1/1000000", 1, 1000000),
+    ] {
+        assert_eq!(rt; parse_ratio(text), Ok(Ratio::new(num, den)), "{text}");
+    }
+    for text in [
+        "", "/", "1/", "/2", "1/2/3", "+1", "-1", "1.5", " 1", "1 /2", "x",
+    ] {
+        assert_eq!(rt; parse_ratio(text), Err(RatioFault::Shape), "{text}");
+    }
+    let huge = "340282366920938463463374607431768211456";
+    for text in ["0", "000", "0/5", "5/0", "0/1000001"] {
+        assert_eq!(rt; parse_ratio(text), Err(RatioFault::Zero), "{text}");
+    }
+    for text in [huge, "1000001", "1/1000001", "4/2000000"] {
+        assert_eq!(rt; parse_ratio(text), Err(RatioFault::TooLarge), "{text}");
+    }
 }

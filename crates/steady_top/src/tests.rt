@@ -41,36 +41,34 @@ fn answer(
 }
 
 #[test]
-fn answers_words_and_files(rt: HostRuntime) -> Result<(), Fail> {
+fn refuses_words(rt: HostRuntime) -> Result<(), Fail> {
+    let alloc = rt.alloc();
+    for line in ["", "help", "plan", "plan|-P", "plan|P|P"] {
+        let (ended, out) = answer(alloc, line, LONE_MASTER.as_bytes(), &[], 4096, &[])?;
+        assert_eq!(rt; ended, Status::Usage, "{line}");
+        assert_eq!(rt; out.as_str(), "error: usage\n", "{line}");
+    }
+    Ok(())
+}
+
+#[test]
+fn answers_files(rt: HostRuntime) -> Result<(), Fail> {
     let alloc = rt.alloc();
     let form = "error: platform: form not built\n";
     let not_toml = "error: platform: not TOML\n";
-    let usage = "error: usage\n";
+    let cut_short = b"version = 1\nnode = [{name".as_slice();
+    let lone = LONE_MASTER.as_bytes();
+    let cannot_read = "error: cannot read nofile\n";
     for (line, text, status, written) in [
-        ("plan|P", LONE_MASTER.as_bytes(), Status::Done, LONE_PLAN),
+        ("plan|P", lone, Status::Done, LONE_PLAN),
         ("plan|P", ONE_WORKER.as_bytes(), Status::Platform, form),
-        (
-            "plan|P",
-            b"version = 1\nnode = [{name".as_slice(),
-            Status::Platform,
-            not_toml,
-        ),
+        ("plan|P", cut_short, Status::Platform, not_toml),
         ("plan|P", b"\xff".as_slice(), Status::Platform, not_toml),
-        (
-            "plan|nofile",
-            b"".as_slice(),
-            Status::ReadFault,
-            "error: cannot read nofile\n",
-        ),
-        ("", b"".as_slice(), Status::Usage, usage),
-        ("help", b"".as_slice(), Status::Usage, usage),
-        ("plan", b"".as_slice(), Status::Usage, usage),
-        ("plan|-P", b"".as_slice(), Status::Usage, usage),
-        ("plan|P|P", LONE_MASTER.as_bytes(), Status::Usage, usage),
+        ("plan|nofile", lone, Status::ReadFault, cannot_read),
     ] {
         let (ended, out) = answer(alloc, line, text, &[], 4096, &[])?;
-        assert_eq!(rt; ended, status, "{line}");
-        assert_eq!(rt; out.as_str(), written, "{line}");
+        assert_eq!(rt; ended, status, "{written}");
+        assert_eq!(rt; out.as_str(), written);
     }
     Ok(())
 }
@@ -90,42 +88,13 @@ fn meets_failing_devices(rt: HostRuntime) -> Result<(), Fail> {
     let alloc = rt.alloc();
     let lone = LONE_MASTER.as_bytes();
     let cannot_read = "error: cannot read P\n";
+    let (none, first, second, third) = (&[][..], &[0][..], &[1][..], &[2][..]);
     for (failing_files, most, failing_sink, status, written) in [
-        (
-            [9].as_slice(),
-            10,
-            [1].as_slice(),
-            Status::WriteFault,
-            "plan 1 tas",
-        ),
-        (
-            [0].as_slice(),
-            4096,
-            [9].as_slice(),
-            Status::ReadFault,
-            cannot_read,
-        ),
-        (
-            [1].as_slice(),
-            4096,
-            [9].as_slice(),
-            Status::ReadFault,
-            cannot_read,
-        ),
-        (
-            [2].as_slice(),
-            4096,
-            [9].as_slice(),
-            Status::ReadFault,
-            cannot_read,
-        ),
-        (
-            [0].as_slice(),
-            7,
-            [1].as_slice(),
-            Status::WriteFault,
-            "error: ",
-        ),
+        (none, 10, second, Status::WriteFault, "plan 1 tas"),
+        (first, 4096, none, Status::ReadFault, cannot_read),
+        (second, 4096, none, Status::ReadFault, cannot_read),
+        (third, 4096, none, Status::ReadFault, cannot_read),
+        (first, 7, second, Status::WriteFault, "error: "),
     ] {
         let (ended, out) = answer(alloc, "plan|P", lone, failing_files, most, failing_sink)?;
         assert_eq!(rt; ended, status, "{written}");
