@@ -3,7 +3,7 @@ mod platforms;
 use crate::status::Status;
 use crate::top::steady;
 use outside_io::{MemoryFiles, MemorySink};
-use platforms::{LONE_MASTER, ONE_WORKER};
+use platforms::{CUT_SHORT, LONE_MASTER, ONE_WORKER};
 use std::alloc::Global;
 use std::test::Fail;
 
@@ -56,7 +56,7 @@ fn answers_files(rt: HostRuntime) -> Result<(), Fail> {
     let alloc = rt.alloc();
     let form = "error: platform: form not built\n";
     let not_toml = "error: platform: not TOML\n";
-    let cut_short = b"version = 1\nnode = [{name".as_slice();
+    let cut_short = CUT_SHORT.as_bytes();
     let lone = LONE_MASTER.as_bytes();
     let cannot_read = "error: cannot read nofile\n";
     for (line, text, status, written) in [

@@ -12,3 +12,6 @@ master = "m"
 node = [{name = "m"}, {name = "w", time = 2}]
 link = [{from = "m", to = "w", cost = 3}]
 "#;
+
+/// A text that ends inside a table, which is no TOML.
+pub const CUT_SHORT: &str = "version = 1\nnode = [{name";
