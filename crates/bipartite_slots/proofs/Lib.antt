@@ -2,13 +2,14 @@ pub mod Adding
 pub mod Blocked
 pub mod Cells
 pub mod Choices
-pub mod Listing
 pub mod Deficit
 pub mod Edges
 pub mod Growing
+pub mod Listing
 pub mod Marks
 pub mod Padded
 pub mod Parts
+pub mod Positives
 pub mod Splitting
 pub mod Sums
 pub mod Takings

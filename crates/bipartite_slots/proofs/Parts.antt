@@ -6,17 +6,18 @@ use Rattle.std.proofs.lemmas.Bool.Decides.{nat_tests}
 use Rattle.std.proofs.lemmas.List.Elements.{All-nil, All-cons}
 use Rattle.std.proofs.lemmas.List.Sums.{sum_by-cons}
 use Rattle.bipartite_slots.specs.Sums.{sum_below}
-use Rattle.bipartite_slots.specs.Squares.{HasSums, HasEqualSums, IsWithin, positives}
+use Rattle.bipartite_slots.specs.Squares.{HasSums, HasEqualSums}
 use Rattle.bipartite_slots.specs.Matchings.{IsPerfectMatching}
 use Rattle.std.specs.List.Sorted.{IsStrictlyIncreasing}
 use Rattle.bipartite_slots.specs.Parts.{lowered, IsLeastCell, edges_from, AreChosen, is_in, SharesNothing, AreApart}
 use Rattle.bipartite_slots.specs.declared.weights.Edge.{Edge}
 use Rattle.bipartite_slots.specs.declared.weights.SlotPart.{SlotPart}
+use Rattle.bipartite_slots.proofs.Positives.{IsWithin, positives}
 use Rattle.bipartite_slots.proofs.Sums.{sum_same, sum_at_most, sum_added, sum_less, term_at_most}
 use Rattle.bipartite_slots.proofs.Marks.{marks, marked_here, marked_elsewhere, marks_in_row, marks_in_column}
 
 pub sums_equal : (size : ℕ) (cells : ℕ → ℕ → ℕ) (total : ℕ) → 0 < total → HasSums size cells total → HasEqualSums size cells
-sums_equal size cells total some sums = record { total = total; some = some; rows = sums.rows; columns = sums.columns }
+sums_equal size cells total some sums = record { total = total; some = some; sums = sums }
 
 module _ (size : ℕ) (cells : ℕ → ℕ → ℕ) (columns : List ℕ) (by : ℕ) where
   pub lowered_here : (row column : ℕ) → get_or columns row 0 ≡ column → lowered cells columns by row column ≡ cells row column - by

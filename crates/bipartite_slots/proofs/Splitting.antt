@@ -4,7 +4,7 @@ use mathlib.Core.Path.{fun_ext}
 use Rattle.std.specs.List.{slice_get}
 use Rattle.std.proofs.Math.Nat.{pow-suc, pow-zero}
 use Rattle.std.proofs.lemmas.List.{append_assoc, take_at}
-use Rattle.bipartite_slots.specs.Squares.{SquareView, cell, HasSums, IsWithin}
+use Rattle.bipartite_slots.specs.Squares.{SquareView, cell, HasSums}
 use Rattle.bipartite_slots.specs.Columns.{AreListed}
 use Rattle.bipartite_slots.specs.Searches.{IsMatching}
 use Rattle.bipartite_slots.specs.Parts.{padded, lowered, AreChosen, AreParts, Exist, AreApart, AreWithin}
@@ -13,6 +13,7 @@ use Rattle.bipartite_slots.specs.declared.weights.Edge.{Edge}
 use Rattle.bipartite_slots.specs.declared.weights.Weights.{Weights}
 use Rattle.bipartite_slots.specs.declared.weights.SlotPart.{SlotPart}
 use Rattle.bipartite_slots.proofs.Cells.{cell_row, cell_column}
+use Rattle.bipartite_slots.proofs.Positives.{IsWithin}
 use Rattle.bipartite_slots.proofs.Edges.{all_exist, weight_is, positives_at_most}
 use Rattle.bipartite_slots.proofs.Listing.{listed_after}
 use Rattle.bipartite_slots.proofs.Padded.{padded_sums, padded_weights}

@@ -3,12 +3,12 @@
 ghost use Rattle.std.specs.Prelude.{◌≡◌, ℕ, ◌+◌, ◌-◌, ◌*◌, ◌^◌, ◌<◌, ◌≤◌, ◌≢◌, ◌↔◌, Some, cond, length, All, IfOk, List, [], ◌∷◌, ◌++◌};
 ghost use Rattle.bipartite_slots.specs.Columns.{AreListed};
 ghost use Rattle.bipartite_slots.specs.Squares.{cell, HasEqualSums};
-ghost use Rattle.bipartite_slots.specs.Searches.{holder, IsMatching};
+ghost use Rattle.bipartite_slots.specs.Searches.{holder, HoldsOnce, IsMatching};
 ghost use Rattle.bipartite_slots.specs.Choices.{IsComplete};
 ghost use Rattle.bipartite_slots.specs.Parts.{padded, edges_from, AreChosen, AreParts, Exist, AreApart, AreWithin};
 ghost use Rattle.bipartite_slots.specs.declared.weights.Edge.{Edge};
 ghost use Rattle.bipartite_slots.specs.Takings.{HasCells};
-ghost use Rattle.bipartite_slots.specs.Takings.{is_holder, less_held, IsLeastHeld, HoldsOnce, AreHeld, TakesPart};
+ghost use Rattle.bipartite_slots.specs.Takings.{is_holder, less_held, IsLeastHeld, AreHeld, TakesPart};
 
 use crate::choice::{arrange, column_of};
 use crate::columns::Columns;

@@ -2,6 +2,7 @@
 use Rattle.std.specs.Prelude.{ℕ, ◌≤◌, List, length, Option, MatchOption, option_map, slice_get, String, Vec, string_bytes}
 use Rattle.std.specs.declared.alloc.Global.{Global}
 
+-- a name and what it contains, as the code keeps them
 abbrev pub Entry : Type 0
 Entry = String Global × Vec ℕ Global
 

@@ -8,6 +8,7 @@ pub data Told : Type 0 where
   absent : Told
   contents : List ℕ → Told
 
+-- what is known of the object at a time
 pub record FilesView : Type 0 where
   -- what is told of each name
   pub held : List ℕ → Told

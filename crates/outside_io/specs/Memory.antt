@@ -4,6 +4,7 @@ use Rattle.std.specs.List.{list_any}
 use Rattle.outside_io.specs.Files.{Told, absent, contents, FilesView}
 use Rattle.outside_io.specs.Sinks.{SinkView}
 
+-- all of files in memory: what they contain, which calls fail, and where the reading stands
 pub record MemoryFilesView : Type 0 where
   -- names with what each contains; of two entries of one name the first counts
   pub entries : List (List ℕ × List ℕ)
@@ -23,6 +24,7 @@ abbrev pub told_by : List (List ℕ × List ℕ) → List ℕ → Told
 told_by [] name = absent
 told_by (entry ∷ entries) name = cond (bytes_eq entry.0 name) (contents entry.1) (told_by entries name)
 
+-- what they tell: everything that they contain
 abbrev pub files_state : MemoryFilesView → FilesView
 files_state files = record {
   held = told_by files.entries;
@@ -37,6 +39,7 @@ files_state files = record {
 abbrev pub is_listed : ℕ → List ℕ → Bool
 is_listed call failing = list_any (λ listed. nat_eq listed call) failing
 
+-- all of a sink in memory: what was written, what it takes, and which calls fail
 pub record MemorySinkView : Type 0 where
   pub written : List ℕ
   -- how many bytes a call takes at the most
@@ -49,5 +52,6 @@ pub record MemorySinkView : Type 0 where
   pub calls : ℕ
   pub faults : ℕ
 
+-- what it tells: everything that was written
 abbrev pub sink_state : MemorySinkView → SinkView
 sink_state sink = record { written = Some sink.written; faults = sink.faults }

@@ -31,6 +31,7 @@ OutCause before most Failed after = Rose before.faults after.faults
 OutCause before most Longer after = IfSome before.current (λ file. most < length file) × (after.taken ≡ most + 1) × (after.faults ≡ before.faults)
 OutCause before most NoMemory after = after.faults ≡ before.faults
 
+-- the current file was not read to its end, for this reason
 pub record IsNotReadOut (before : FilesView) (most : ℕ) (end : ReadEnd) (after : FilesView) : Type 0 where
   pub same : SameFile before after
   pub cause : OutCause before most end after
@@ -56,6 +57,7 @@ pub record IsLonger (before : FilesView) (name : List ℕ) (most : ℕ) (after :
   pub taken : after.taken ≡ most + 1
   pub faults : after.faults ≡ before.faults
 
+-- what is known where a file was not read whole, by the reason
 abbrev pub EndCause : FilesView → List ℕ → ℕ → ReadEnd → FilesView → Type 0
 EndCause before name most Failed after = HasCause before name after
 EndCause before name most Longer after = IsLonger before name most after

@@ -2,6 +2,7 @@
 use Rattle.std.specs.Prelude.{◌≡◌, ℕ, ◌<◌, ◌≤◌, List, ◌++◌, length, take, Option, option_map}
 use Rattle.outside_io.specs.Faults.{Rose}
 
+-- what is known of the sink at a time
 pub record SinkView : Type 0 where
   -- what was written, where it is told
   pub written : Option (List ℕ)

@@ -24,7 +24,8 @@ pub struct StdFiles<'a, R: SystemFiles> {
 impl<'a, R: SystemFiles> StdFiles<'a, R> {
     /// Files of the system, none of which is open, before any call and fault.
     pub fn new(system: &'a R) -> StdFiles<'a, R>
-        ensures { (result.faults ≡ 0) × (result.opens ≡ 0) × (result.taken ≡ 0) }
+        ensures counts { (result.faults ≡ 0) × (result.opens ≡ 0) × (result.taken ≡ 0) }
+        ensures closed { result.current ≡ None }
     {
         StdFiles {
             system,

@@ -1,5 +1,5 @@
 -- Platforms: a directed graph of nodes, some of which compute, and of links with costs.
--- Source: Beaumont, Legrand and Robert, "Scheduling divisible loads on star and tree networks", and their papers on steady state.
+-- Source: the platform graphs of Beaumont, Legrand and Robert's papers on steady-state scheduling.
 use Rattle.std.specs.Prelude.{◌≡◌, ℕ, ◌<◌, ◌≤◌, ◌≢◌, Bool, true, false, ◌&&◌, ◌||◌, List, length, map, All, Option, nat_eq, nat_le, IfSome, bytes_eq}
 use Rattle.std.specs.List.{IsDistinct, list_all}
 use Rattle.ratio_core.specs.Fraction.{Fraction}
@@ -42,6 +42,7 @@ pub record IsSpan (f : Fraction) : Type 0 where
   pub some_den : 1 ≤ f.den
   pub small_den : f.den ≤ 1000000
 
+-- the node has a name, and a time where it computes
 pub record IsNode (node : NodeView) : Type 0 where
   pub named : is_name node.name ≡ true
   pub time : IfSome node.time IsSpan

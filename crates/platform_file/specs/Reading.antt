@@ -17,6 +17,7 @@ most_bytes = 1048576
 abbrev pub lone_platform : List ℕ → ℕ → PlatformView
 lone_platform name time = record { nodes = record { name = name; time = Some (whole time) } ∷ []; links = []; master = 0; targets = [] }
 
+-- the platform is a master that stands alone
 pub record IsLoneMaster (p : PlatformView) : Type 0 where
   pub name : List ℕ
   pub time : ℕ

@@ -14,9 +14,11 @@ pub record TimedView : Type 0 where
 abbrev pub ticks_of : ℕ → Fraction → ℕ
 ticks_of unit f = unit * f.num / f.den
 
+-- the ticks of each node's task, where it computes
 abbrev pub times_of : ℕ → PlatformView → List (Option ℕ)
 times_of unit p = map (λ node. option_map (ticks_of unit) node.time) p.nodes
 
+-- the ticks of each link's task or message
 abbrev pub costs_of : ℕ → PlatformView → List ℕ
 costs_of unit p = map (λ link. ticks_of unit link.cost) p.links
 

@@ -11,6 +11,7 @@ use Rattle.ratio_core.specs.declared.text.RatioFault.TheVariants.{Shape, Zero, T
 abbrev pub is_number : List ℕ → Bool
 is_number text = nat_lt 0 (length text) && list_all is_ascii_digit text
 
+-- the byte is `/`
 abbrev pub is_slash : ℕ → Bool
 is_slash b = nat_eq b 47
 

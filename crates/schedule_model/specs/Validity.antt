@@ -32,13 +32,15 @@ pub record IsWellFormed (t : TimedView) (series : Series) (s : Schedule) : Type 
   pub in_time : All (λ op. end_of t s.ticks_per_unit op ≤ s.length) s.ops
   pub own_kept : All (KeepsOwn t series) s.ops
 
--- how many sends from a node, sends to it and computations at it are open at a tick
+-- how many sends from a node are open at a tick
 abbrev pub open_sends : TimedView → Schedule → ℕ → ℕ → ℕ
 open_sends t s node tick = count_by (λ op. sends_from t node op && is_open t s.ticks_per_unit tick op) s.ops
 
+-- how many sends to a node are open at a tick
 abbrev pub open_receives : TimedView → Schedule → ℕ → ℕ → ℕ
 open_receives t s node tick = count_by (λ op. sends_to t node op && is_open t s.ticks_per_unit tick op) s.ops
 
+-- how many computations at a node are open at a tick
 abbrev pub open_computes : TimedView → Schedule → ℕ → ℕ → ℕ
 open_computes t s node tick = count_by (λ op. computes_at node op && is_open t s.ticks_per_unit tick op) s.ops
 
@@ -48,18 +50,20 @@ pub record IsOnePort (t : TimedView) (s : Schedule) : Type 0 where
   pub receives : (node tick : ℕ) → open_receives t s node tick ≤ 1
   pub computes : (node tick : ℕ) → open_computes t s node tick ≤ 1
 
--- how many tasks a node has begun to send or to compute by a tick, and how many it has received
+-- how many tasks a node has begun to send or to compute by a tick
 abbrev pub started_tasks : TimedView → Schedule → ℕ → ℕ → ℕ
 started_tasks t s node tick =
     count_by (λ op. sends_from t node op && has_started tick op) s.ops + count_by (λ op. computes_at node op && has_started tick op) s.ops
 
+-- how many tasks a node has received by a tick
 abbrev pub received_tasks : TimedView → Schedule → ℕ → ℕ → ℕ
 received_tasks t s node tick = count_by (λ op. sends_to t node op && has_ended t s.ticks_per_unit tick op) s.ops
 
--- how many messages of a kind a node has begun to send by a tick, and how many it has received
+-- how many messages of a kind a node has begun to send by a tick
 abbrev pub started_messages : TimedView → Schedule → ℕ → ℕ → ℕ → ℕ
 started_messages t s kind node tick = count_by (λ op. is_of_kind kind op && (sends_from t node op && has_started tick op)) s.ops
 
+-- how many messages of a kind a node has received by a tick
 abbrev pub received_messages : TimedView → Schedule → ℕ → ℕ → ℕ → ℕ
 received_messages t s kind node tick =
     count_by (λ op. is_of_kind kind op && (sends_to t node op && has_ended t s.ticks_per_unit tick op)) s.ops

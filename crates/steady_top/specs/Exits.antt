@@ -3,6 +3,7 @@ use Rattle.std.specs.Prelude.{ℕ}
 use Rattle.steady_top.specs.declared.status.Status.{Status}
 use Rattle.steady_top.specs.declared.status.Status.TheVariants.{Done, Usage, Platform, Overflow, Spent, ReadFault, WriteFault, NoMemory, TooLong, Refused}
 
+-- a status's number, which is the exit status of the process
 abbrev pub exit_code : Status → ℕ
 exit_code Done = 0
 exit_code Usage = 1

@@ -3,6 +3,7 @@ use Rattle.steady_top.specs.declared.fault.TopFault.{TopFault}
 use Rattle.steady_top.specs.declared.fault.TopFault.TheVariants as top
 use Rattle.steady_top.specs.Refusals.{Refusal, usage, limit, not_toml, form_not_yet, cannot_read, no_memory}
 
+-- each fault is the refusal of its name
 abbrev pub refusal_of : TopFault → Refusal
 refusal_of top.Usage = usage
 refusal_of (top.Limit kind found) = limit kind found

@@ -10,6 +10,7 @@ use Rattle.steady_top.specs.declared.table.Slot.{Slot}
 abbrev pub lone_route : Route
 lone_route = record { links = []; end = 0; count = 1; kind = 0 }
 
+-- a slot in which nothing moves
 abbrev pub idle_slot : ℕ → Slot
 idle_slot ticks = record { duration = ticks; pieces = [] }
 

@@ -15,10 +15,12 @@ use Rattle.steady_top.specs.Tables.{nodes_on}
 abbrev pub line : List ℕ → List ℕ
 line text = text ++ (10 ∷ [])
 
+-- the word of a series
 abbrev pub series_text : Series → List ℕ
 series_text Tasking = codes "tasking"
 series_text Scatter = codes "scatter"
 
+-- a fraction's parts round a slash
 abbrev pub ratio_text : Fraction → List ℕ
 ratio_text f = decimal f.num ++ (codes "/" ++ decimal f.den)
 
@@ -26,6 +28,7 @@ ratio_text f = decimal f.num ++ (codes "/" ++ decimal f.den)
 abbrev pub no_node : NodeView
 no_node = record { name = []; time = None }
 
+-- a node's name
 abbrev pub name_of : TimedView → ℕ → List ℕ
 name_of t node = (slice_index_or t.platform.nodes node no_node).name
 
@@ -38,6 +41,7 @@ names_text t (node ∷ nodes) = codes " " ++ (name_of t node ++ names_text t nod
 abbrev pub route_text : TimedView → ℕ → Route → List ℕ
 route_text t number route = line (codes "route " ++ (decimal number ++ (codes " " ++ (decimal route.count ++ names_text t (nodes_on t route.links route.end)))))
 
+-- the lines of some routes, numbered from one on
 abbrev pub routes_text : TimedView → ℕ → List Route → List ℕ
 routes_text t number [] = []
 routes_text t number (route ∷ routes) = route_text t number route ++ routes_text t (number + 1) routes
@@ -47,9 +51,11 @@ abbrev pub pieces_text : List Piece → List ℕ
 pieces_text [] = []
 pieces_text (piece ∷ pieces) = codes " " ++ (decimal piece.lane ++ (codes ":" ++ (decimal piece.count ++ pieces_text pieces)))
 
+-- a slot's duration and its pieces
 abbrev pub slot_text : Slot → List ℕ
 slot_text slot = line (codes "slot " ++ (decimal slot.duration ++ pieces_text slot.pieces))
 
+-- the lines of some slots
 abbrev pub slots_text : List Slot → List ℕ
 slots_text [] = []
 slots_text (slot ∷ slots) = slot_text slot ++ slots_text slots

@@ -8,6 +8,7 @@ use Rattle.steady_top.specs.declared.status.Status.{Status}
 use Rattle.steady_top.specs.declared.status.Status.TheVariants as status
 use Rattle.steady_top.specs.PlanText.{line}
 
+-- a reason, with what its error line names
 pub data Refusal : Type 0 where
   -- the words are no command
   usage : Refusal
@@ -29,6 +30,7 @@ platform_refusal fault.NotToml = not_toml
 platform_refusal fault.FormNotYet = form_not_yet
 platform_refusal fault.NoMemory = no_memory
 
+-- the status with which a refusal ends the program
 abbrev pub status_of : Refusal → Status
 status_of usage = status.Usage
 status_of (limit kind found) = status.Platform
@@ -37,9 +39,11 @@ status_of form_not_yet = status.Platform
 status_of (cannot_read name) = status.ReadFault
 status_of no_memory = status.NoMemory
 
+-- what there is too much of, and how much there is
 abbrev pub limit_text : Kind → ℕ → List ℕ
 limit_text Text found = codes "text of " ++ (decimal found ++ codes " bytes")
 
+-- the error line's text after `error: `
 abbrev pub refusal_text : Refusal → List ℕ
 refusal_text usage = codes "usage"
 refusal_text (limit kind found) = codes "platform: " ++ limit_text kind found
@@ -48,5 +52,6 @@ refusal_text form_not_yet = codes "platform: form not built"
 refusal_text (cannot_read name) = codes "cannot read " ++ name
 refusal_text no_memory = codes "out of memory"
 
+-- the whole error line
 abbrev pub error_line : Refusal → List ℕ
 error_line refusal = line (codes "error: " ++ refusal_text refusal)

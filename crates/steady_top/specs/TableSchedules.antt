@@ -21,10 +21,11 @@ pub record Placed : Type 0 where
   pub op : Op
   pub lane : ℕ
 
--- a send over a lane, and a computation at a node, from a start on
+-- a send over a lane, from a start on
 abbrev pub send_over : List LaneAt → ℕ → ℕ → Placed
 send_over lanes lane start = record { op = Send (lane_at lanes lane).link (lane_at lanes lane).kind start; lane = lane }
 
+-- a computation at a node, from a start on
 abbrev pub compute_at : ℕ → ℕ → Placed
 compute_at node start = record { op = Compute node start; lane = 0 }
 
@@ -90,6 +91,7 @@ abbrev pub key_of_op : Op → ℕ → List ℕ
 key_of_op (Send link kind start) lane = start ∷ (0 ∷ (link ∷ (lane ∷ (kind ∷ []))))
 key_of_op (Compute node start) lane = start ∷ (1 ∷ (node ∷ (lane ∷ (0 ∷ []))))
 
+-- the same of an operation with its lane
 abbrev pub key_of : Placed → List ℕ
 key_of p = key_of_op p.op p.lane
 
@@ -97,11 +99,12 @@ key_of p = key_of_op p.op p.lane
 abbrev pub order_of : Placed → Placed → Ordering
 order_of p q = slice_cmp nat_cmp (key_of p) (key_of q)
 
--- a list put into order
+-- an operation put into its place in an ordered list
 abbrev pub put_in_order : Placed → List Placed → List Placed
 put_in_order p [] = p ∷ []
 put_in_order p (q ∷ qs) = cond (is_le (order_of p q)) (p ∷ (q ∷ qs)) (q ∷ put_in_order p qs)
 
+-- a list put into order, by insertion
 abbrev pub in_order : List Placed → List Placed
 in_order [] = []
 in_order (p ∷ ps) = put_in_order p (in_order ps)

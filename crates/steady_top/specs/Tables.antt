@@ -14,11 +14,12 @@ use Rattle.steady_top.specs.declared.table.Slot.{Slot}
 use Rattle.steady_top.specs.declared.table.Piece.{Piece}
 use Rattle.steady_top.specs.Lanes.{LaneAt, lanes_of, lane_at}
 
--- where a walk over some links to an end begins, and all nodes on it
+-- where a walk over some links to an end begins
 abbrev pub first_node : TimedView → List ℕ → ℕ → ℕ
 first_node t [] end = end
 first_node t (link ∷ links) end = sender_of t link
 
+-- all nodes on a walk over some links to an end
 abbrev pub nodes_on : TimedView → List ℕ → ℕ → List ℕ
 nodes_on t [] end = end ∷ []
 nodes_on t (link ∷ links) end = sender_of t link ∷ nodes_on t links end
