@@ -1,2 +1,4 @@
-pub mod LonePlatform
 pub mod TableKeys
+pub mod ItemReading
+pub mod Growing
+pub mod Units

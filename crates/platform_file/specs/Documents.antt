@@ -1,8 +1,8 @@
 -- What is looked up in a TOML document.
-use Rattle.std.specs.Prelude.{ℕ, ℤ, Bool, not, cond, List, [], ◌∷◌, Option, Some, None, option_and_then, bytes_eq, codes}
+use Rattle.std.specs.Prelude.{ℕ, ℤ, Bool, not, cond, List, [], ◌∷◌, Option, Some, None, option_map, option_and_then, bytes_eq, codes}
 use Rattle.std.specs.List.{list_any}
 use Rattle.std.specs.Str.{is_utf8}
-use Rattle.toml.specs.Data.{Data, Items, no_items, item, Members, no_members, member, get_member, as_str, as_integer, as_array, as_table}
+use Rattle.toml.specs.Data.{Data, Items, no_items, item, Members, no_members, member, get_member, as_str, as_integer, as_array}
 use Rattle.toml.specs.Parse.{parse_document}
 
 -- the document that some bytes spell, where they are UTF-8 and TOML
@@ -14,13 +14,17 @@ abbrev pub keys_of : Members → List (List ℕ)
 keys_of no_members = []
 keys_of (member key value members) = key ∷ keys_of members
 
--- the keys of a document of the accepted form
+-- the keys of a document
 abbrev pub top_keys : List (List ℕ)
-top_keys = codes "version" ∷ (codes "master" ∷ (codes "node" ∷ []))
+top_keys = codes "version" ∷ (codes "master" ∷ (codes "targets" ∷ (codes "node" ∷ (codes "link" ∷ []))))
 
--- the keys of its node
+-- the keys of a node's table
 abbrev pub node_keys : List (List ℕ)
 node_keys = codes "name" ∷ (codes "time" ∷ [])
+
+-- the keys of a link's table
+abbrev pub link_keys : List (List ℕ)
+link_keys = codes "from" ∷ (codes "to" ∷ (codes "cost" ∷ []))
 
 -- the key is one of the names
 abbrev pub is_among : List (List ℕ) → List ℕ → Bool
@@ -38,11 +42,16 @@ text_at key members = option_and_then as_str (get_member key members)
 abbrev pub integer_at : List ℕ → Members → Option ℤ
 integer_at key members = option_and_then as_integer (get_member key members)
 
--- the item of an array of one
-abbrev pub only_item : Items → Option Data
-only_item (item value no_items) = Some value
-only_item _ = None
+-- what the items are, where each of them is what is asked for
+abbrev pub all_of : {A : Type 0} → (Data → Option A) → Items → Option (List A)
+all_of read no_items = Some []
+all_of read (item value items) = option_and_then (λ one. option_map (λ rest. one ∷ rest) (all_of read items)) (read value)
 
--- the table in the array of one table at a key
-abbrev pub only_table_at : List ℕ → Members → Option Members
-only_table_at key members = option_and_then as_table (option_and_then only_item (option_and_then as_array (get_member key members)))
+-- the same of the items of an array
+abbrev pub items_of : {A : Type 0} → (Data → Option A) → Data → Option (List A)
+items_of read value = option_and_then (all_of read) (as_array value)
+
+-- the same of an array that may be absent, and is then empty
+abbrev pub optional_items : {A : Type 0} → (Data → Option A) → Option Data → Option (List A)
+optional_items read None = Some []
+optional_items read (Some value) = items_of read value

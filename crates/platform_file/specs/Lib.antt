@@ -1,4 +1,6 @@
 pub mod Platform
 pub mod Ticks
 pub mod Documents
+pub mod Places
 pub mod Reading
+pub mod Sections

@@ -1,8 +1,9 @@
 -- Platforms: a directed graph of nodes, some of which compute, and of links with costs.
 -- Source: the platform graphs of Beaumont, Legrand and Robert's papers on steady-state scheduling.
-use Rattle.std.specs.Prelude.{◌≡◌, ℕ, ◌<◌, ◌≤◌, ◌≢◌, Bool, true, false, ◌&&◌, ◌||◌, List, length, map, All, Option, nat_eq, nat_le, IfSome, bytes_eq}
+use Rattle.std.specs.Prelude.{◌≡◌, not, ℕ, ◌<◌, ◌≤◌, ◌≢◌, Bool, true, ◌&&◌, ◌||◌, List, length, All, Option, nat_eq, nat_le, IfSome, bytes_eq}
 use Rattle.std.specs.List.{IsDistinct, list_all}
 use Rattle.ratio_core.specs.Fraction.{Fraction}
+use Rattle.ratio_core.specs.Texts.{HasSmallParts}
 
 -- a node, with the time units that a task takes there where it computes
 pub record NodeView : Type 0 where
@@ -26,6 +27,10 @@ pub record PlatformView : Type 0 where
 abbrev pub is_master : PlatformView → ℕ → Bool
 is_master p node = nat_eq node p.master
 
+-- a plan can use the link: what a link brings to the master is of no use
+abbrev pub is_used : PlatformView → LinkView → Bool
+is_used p link = not (is_master p link.to)
+
 -- an ASCII letter or digit, `_`, `-` or `.`
 abbrev pub is_name_byte : ℕ → Bool
 is_name_byte b =
@@ -35,33 +40,30 @@ is_name_byte b =
 abbrev pub is_name : List ℕ → Bool
 is_name name = nat_le 1 (length name) && (nat_le (length name) 32 && list_all is_name_byte name)
 
--- a time or a cost: both parts from 1 to a million
-pub record IsSpan (f : Fraction) : Type 0 where
-  pub some_num : 1 ≤ f.num
-  pub small_num : f.num ≤ 1000000
-  pub some_den : 1 ≤ f.den
-  pub small_den : f.den ≤ 1000000
-
 -- the node has a name, and a time where it computes
 pub record IsNode (node : NodeView) : Type 0 where
   pub named : is_name node.name ≡ true
-  pub time : IfSome node.time IsSpan
+  pub time : IfSome node.time HasSmallParts
 
--- the link joins two nodes
-pub record IsLink (p : PlatformView) (link : LinkView) : Type 0 where
-  pub leaves : link.from < length p.nodes
-  pub enters : link.to < length p.nodes
+-- both nodes have one name
+abbrev pub same_name : NodeView → NodeView → Bool
+same_name node other = bytes_eq node.name other.name
+
+-- the link joins two of the nodes
+pub record IsLink (nodes : List NodeView) (link : LinkView) : Type 0 where
+  pub leaves : link.from < length nodes
+  pub enters : link.to < length nodes
   pub apart : link.from ≢ link.to
-  pub cost : IsSpan link.cost
+  pub cost : HasSmallParts link.cost
 
 -- both links lead from one node to one other
 abbrev pub same_ends : LinkView → LinkView → Bool
 same_ends link other = nat_eq link.from other.from && nat_eq link.to other.to
 
--- the target is a node that wants messages from elsewhere
-pub record IsTarget (p : PlatformView) (target : ℕ) : Type 0 where
-  pub exists : target < length p.nodes
-  pub no_master : is_master p target ≡ false
+-- the target is a node, and not the master
+pub record IsTarget (nodes : List NodeView) (master target : ℕ) : Type 0 where
+  pub exists : target < length nodes
+  pub no_master : target ≢ master
 
 -- what a platform file may say
 pub record IsPlatform (p : PlatformView) : Type 0 where
@@ -69,9 +71,9 @@ pub record IsPlatform (p : PlatformView) : Type 0 where
   pub few_links : length p.links ≤ 128
   pub few_targets : length p.targets ≤ 8
   pub nodes : All IsNode p.nodes
-  pub names_differ : IsDistinct bytes_eq (map (λ node. node.name) p.nodes)
+  pub names_differ : IsDistinct same_name p.nodes
   pub a_master : p.master < length p.nodes
-  pub links : All (IsLink p) p.links
+  pub links : All (IsLink p.nodes) p.links
   pub links_differ : IsDistinct same_ends p.links
-  pub targets : All (IsTarget p) p.targets
+  pub targets : All (IsTarget p.nodes p.master) p.targets
   pub targets_differ : IsDistinct nat_eq p.targets

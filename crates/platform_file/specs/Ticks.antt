@@ -1,5 +1,8 @@
 -- Platforms whose times and costs are counted in ticks. Source: this project; the papers count in rational time.
-use Rattle.std.specs.Prelude.{◌≡◌, ℕ, ◌*◌, ◌/◌, ◌%◌, ◌^◌, ◌≤◌, List, ◌++◌, map, flat_map, All, Option, IfSome, option_map, option_to_list}
+use Rattle.std.specs.Prelude.{◌≡◌, ⊤, ℕ, ◌*◌, ◌/◌, ◌%◌, ◌^◌, ◌<◌, ◌≤◌, nat_le, cond, List, [], ◌∷◌, ◌++◌, map, flat_map, All, Option, Result, Ok, Err, IfSome, option_map, option_to_list}
+use Rattle.ratio_core.specs.Multiples.{lcm_of}
+use Rattle.platform_file.specs.declared.fault.TimedFault.{TimedFault}
+use Rattle.platform_file.specs.declared.fault.TimedFault.TheVariants.{Unit, NoMemory}
 use Rattle.ratio_core.specs.Fraction.{Fraction}
 use Rattle.platform_file.specs.Platform.{PlatformView, IsPlatform}
 
@@ -41,3 +44,26 @@ pub record IsTimed (t : TimedView) : Type 0 where
   pub costs : t.costs ≡ costs_of t.unit t.platform
   pub some_time : All (λ time. IfSome time (λ ticks. 1 ≤ ticks)) t.times
   pub some_cost : All (λ ticks. 1 ≤ ticks) t.costs
+
+-- the least common multiple of what stands so far and of the denominators that follow, in their order; the first denominator that makes it pass 2^40 ends it
+abbrev pub unit_from : ℕ → List ℕ → Result ℕ TimedFault
+unit_from left [] = Ok left
+unit_from left (right ∷ rest) = cond (nat_le (lcm_of left right) (2 ^ 40)) (unit_from (lcm_of left right) rest) (Err (Unit left right))
+
+-- a platform in ticks, or where the ticks of its time unit pass the bound
+abbrev pub timed_of : PlatformView → Result TimedView TimedFault
+timed_of p = in_ticks (unit_from 1 (denominators_of p))
+  where
+    in_ticks : Result ℕ TimedFault → Result TimedView TimedFault
+    in_ticks (Ok unit) = Ok (record { platform = p; unit = unit; times = times_of unit p; costs = costs_of unit p })
+    in_ticks (Err fault) = Err fault
+
+-- the fault is the one with which this ends; want of memory may come at any time
+abbrev pub IsTimedFault : {A : Type 0} → TimedFault → Result A TimedFault → Type 0
+IsTimedFault NoMemory read = ⊤
+IsTimedFault fault read = read ≡ Err fault
+
+-- no number of ticks up to 2^40 makes every time and cost whole
+abbrev pub HasNoUnit : PlatformView → TimedFault → Type 0
+HasNoUnit p NoMemory = ⊤
+HasNoUnit p (Unit left right) = (n : ℕ) → 1 ≤ n → IsCommonMultiple (denominators_of p) n → 2 ^ 40 < n

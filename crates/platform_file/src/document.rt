@@ -1,16 +1,17 @@
 //! Look-ups in a TOML document.
 
-ghost use Rattle.std.specs.Prelude.{◌≡◌, not, string_bytes, option_map, option_and_then, option_copied};
+ghost use Rattle.std.specs.Prelude.{◌≡◌, not, map, string_bytes, IfOk, option_map, option_and_then, option_copied, bytes_eq};
 ghost use Rattle.std.specs.List.{list_any};
 ghost use Rattle.std.specs.BTreeMap.{keys};
-ghost use Rattle.toml.specs.Data.{get_member, as_array};
+ghost use Rattle.toml.specs.Data.{get_member, as_str, as_table};
 ghost use Rattle.toml.specs.View.{view, items_view, table_view};
-ghost use Rattle.platform_file.specs.Documents.{text_at, integer_at, only_item, only_table_at, has_other_key, is_among, top_keys, node_keys};
+ghost use Rattle.platform_file.specs.Documents.{text_at, integer_at, has_other_key, is_among, top_keys, node_keys, link_keys, all_of, items_of, optional_items};
 
+use std::alloc::{AllocError, Global};
 use toml::{Table, Value};
 
 /// The value at a key.
-fn value_at<'a>(table: &'a Table, key: &str) -> Option<&'a Value>
+pub(crate) fn value_at<'a>(table: &'a Table, key: &str) -> Option<&'a Value>
     ensures { option_map (λ value. view value.now) result ≡ get_member key.now (table_view table.now) }
 {
     table.get(key)
@@ -36,79 +37,99 @@ pub(crate) fn text_at<'a>(table: &'a Table, key: &str) -> Option<&'a str>
     }
 }
 
-/// The array at a key.
-fn array_at<'a>(table: &'a Table, key: &str) -> Option<&'a [Value]>
-    ensures { option_map (λ values. items_view values.now) result ≡ option_and_then as_array (get_member key.now (table_view table.now)) }
+/// The strings of some values, where each of them is one.
+fn all_texts<'a>(alloc: Global, values: &'a [Value]) -> Result<Option<Vec<&'a str>>, AllocError>
+    ensures { IfOk result (λ found. option_map (λ texts. map (λ text. text.now) texts.items) found ≡ all_of as_str (items_view values.now)) }
+{
+    let mut texts = Vec::new(alloc);
+    for value in values {
+        match value.as_str() {
+            Some(text) => texts.push(text)?,
+            None => return Ok(None),
+        }
+    }
+    Ok(Some(texts))
+}
+
+/// The tables of some values, where each of them is one.
+fn all_tables<'a>(alloc: Global, values: &'a [Value]) -> Result<Option<Vec<&'a Table>>, AllocError>
+    ensures { IfOk result (λ found. option_map (λ tables. map (λ table. table_view table.now) tables.items) found ≡ all_of as_table (items_view values.now)) }
+{
+    let mut tables = Vec::new(alloc);
+    for value in values {
+        match value.as_table() {
+            Some(table) => tables.push(table)?,
+            None => return Ok(None),
+        }
+    }
+    Ok(Some(tables))
+}
+
+/// The tables of the array at a key.
+pub(crate) fn tables_at<'a>(
+    alloc: Global,
+    table: &'a Table,
+    key: &str,
+) -> Result<Option<Vec<&'a Table>>, AllocError>
+    ensures { IfOk result (λ found. option_map (λ tables. map (λ table. table_view table.now) tables.items) found ≡ option_and_then (items_of as_table) (get_member key.now (table_view table.now))) }
+{
+    match value_at(table, key).and_then(Value::as_array) {
+        Some(values) => all_tables(alloc, values),
+        None => Ok(None),
+    }
+}
+
+/// The tables of the array at a key, and none where the key is absent.
+pub(crate) fn optional_tables<'a>(
+    alloc: Global,
+    table: &'a Table,
+    key: &str,
+) -> Result<Option<Vec<&'a Table>>, AllocError>
+    ensures { IfOk result (λ found. option_map (λ tables. map (λ table. table_view table.now) tables.items) found ≡ optional_items as_table (get_member key.now (table_view table.now))) }
 {
     match value_at(table, key) {
+        None => Ok(Some(Vec::new(alloc))),
         Some(value) => match value.as_array() {
-            Some(array) => Some(array.as_slice()),
-            None => None,
+            Some(values) => all_tables(alloc, values),
+            None => Ok(None),
         },
-        None => None,
     }
 }
 
-/// The value of an array of one value.
-fn only_value(values: &[Value]) -> Option<&Value>
-    ensures { option_map (λ value. view value.now) result ≡ only_item (items_view values.now) }
+/// The strings of the array at a key, and none where the key is absent.
+pub(crate) fn optional_texts<'a>(
+    alloc: Global,
+    table: &'a Table,
+    key: &str,
+) -> Result<Option<Vec<&'a str>>, AllocError>
+    ensures { IfOk result (λ found. option_map (λ texts. map (λ text. text.now) texts.items) found ≡ optional_items as_str (get_member key.now (table_view table.now))) }
 {
-    if values.len() == 1 {
-        Some(&values[0])
-    } else {
-        None
+    match value_at(table, key) {
+        None => Ok(Some(Vec::new(alloc))),
+        Some(value) => match value.as_array() {
+            Some(values) => all_texts(alloc, values),
+            None => Ok(None),
+        },
     }
 }
 
-/// The table of an array of one table at a key.
-pub(crate) fn only_table_at<'a>(table: &'a Table, key: &str) -> Option<&'a Table>
-    ensures { option_map (λ only. table_view only.now) result ≡ only_table_at key.now (table_view table.now) }
+/// Whether a key is one of the names.
+fn is_among(names: &[&str], key: &str) -> bool
+    ensures { result ≡ list_any (λ name. bytes_eq key.now name.now) names.now }
 {
-    let values = array_at(table, key)?;
-    match only_value(values) {
-        Some(value) => value.as_table(),
-        None => None,
-    }
+    names.iter().any(|name| key == *name)
 }
 
-/// Whether a document's key is one of the format's.
-fn is_top_key(key: &str) -> bool
-    ensures { result ≡ is_among top_keys key.now }
+/// Whether a map's key is none of the names.
+fn any_other_key(names: &[&str], table: &Table) -> bool
+    ensures { result ≡ list_any (λ key. not (list_any (λ name. bytes_eq (string_bytes key) name.now) names.now)) (keys table.now) }
 {
-    key == "version" || key == "master" || key == "node"
+    table.keys().any(|key| !is_among(names, key.as_str()))
 }
 
-/// Whether a node's key is one of the format's.
-fn is_node_key(key: &str) -> bool
-    ensures { result ≡ is_among node_keys key.now }
+/// Whether a table has a key that is none of the names.
+pub(crate) fn has_other_key(names: &[&str], table: &Table) -> bool
+    ensures { result ≡ has_other_key (map (λ name. name.now) names.now) (table_view table.now) }
 {
-    key == "name" || key == "time"
-}
-
-/// Whether a map's key isn't one of a document's.
-fn any_strange_top_key(document: &Table) -> bool
-    ensures { result ≡ list_any (λ key. not (is_among top_keys (string_bytes key))) (keys document.now) }
-{
-    document.keys().any(|key| !is_top_key(key.as_str()))
-}
-
-/// Whether a map's key isn't one of a node's.
-fn any_strange_node_key(node: &Table) -> bool
-    ensures { result ≡ list_any (λ key. not (is_among node_keys (string_bytes key))) (keys node.now) }
-{
-    node.keys().any(|key| !is_node_key(key.as_str()))
-}
-
-/// Whether a document has a key beside the format's.
-pub(crate) fn has_other_top_key(document: &Table) -> bool
-    ensures { result ≡ has_other_key top_keys (table_view document.now) }
-{
-    any_strange_top_key(document)
-}
-
-/// Whether a node has a key beside the format's.
-pub(crate) fn has_other_node_key(node: &Table) -> bool
-    ensures { result ≡ has_other_key node_keys (table_view node.now) }
-{
-    any_strange_node_key(node)
+    any_other_key(names, table)
 }

@@ -6,11 +6,12 @@ mod fault;
 mod platform;
 mod reading;
 mod scaling;
+mod sections;
 #[cfg(test)]
 mod tests;
 mod ticks;
 
-pub use fault::{Kind, PlatformFault};
+pub use fault::{Field, Kind, Place, PlatformFault, Section, TimedFault};
 pub use platform::{Link, Name, Node, Platform};
 pub use reading::{MOST_BYTES, read_platform};
 pub use scaling::timed;

@@ -2,11 +2,10 @@
 
 ghost use Rattle.std.specs.Prelude.{◌≡◌, ◌<◌, ◌↔◌, true, false, [], ◌∷◌, length, Some, IsNone, IfSome, IfOk, string_bytes};
 ghost use Rattle.std.specs.List.{list_all};
-ghost use Rattle.platform_file.specs.Platform.{is_name, is_name_byte, is_master, IsSpan, IsPlatform};
+ghost use Rattle.platform_file.specs.Platform.{is_name, is_name_byte, is_master, same_ends, IsPlatform};
 
-use listed::{Listed, NoMemory};
+use listed::Listed;
 use ratio_core::Ratio;
-use std::alloc::Global;
 use std::marker::Model;
 
 /// A name of 1 to 32 ASCII letters, digits, `_`, `-` or `.`.
@@ -91,6 +90,13 @@ impl Model for Node {
 }
 
 impl Node {
+    /// A node with its name and its time.
+    pub(crate) fn new(name: Name, time: Option<Ratio>) -> Node
+        ensures { result ≡ record { name = name; time = time } }
+    {
+        Node { name, time }
+    }
+
     /// The node's name.
     pub fn name(&self) -> &Name
         ensures { result.now ≡ self.now.name }
@@ -123,6 +129,20 @@ impl Model for Link {
 }
 
 impl Link {
+    /// A link with its ends and its cost.
+    pub(crate) fn new(from: u32, to: u32, cost: Ratio) -> Link
+        ensures { result ≡ record { from = from; to = to; cost = cost } }
+    {
+        Link { from, to, cost }
+    }
+
+    /// Whether both links lead from one node to one other.
+    pub(crate) fn has_same_ends(&self, other: &Link) -> bool
+        ensures { result ≡ same_ends self.now other.now }
+    {
+        self.from == other.from && self.to == other.to
+    }
+
     /// The number of the node that the link leaves.
     pub fn from(&self) -> u32
         ensures { result ≡ self.now.from }
@@ -172,23 +192,22 @@ impl Platform {
         let _ = &self.master;
     }
 
-    /// A master that stands alone, with the time units of a task.
-    pub(crate) fn lone_master(alloc: Global, name: Name, time: Ratio) -> Result<Platform, NoMemory>
-        requires span { IsSpan time }
-        ensures { IfOk result (λ p. p ≡ record { nodes = record { name = name; time = Some time } ∷ []; links = []; master = 0; targets = [] }) }
+    /// A platform of its parts.
+    pub(crate) fn new(
+        nodes: Listed<Node>,
+        links: Listed<Link>,
+        master: u32,
+        targets: Listed<u32>,
+    ) -> Platform
+        requires { IsPlatform (record { nodes = nodes; links = links; master = master; targets = targets }) }
+        ensures { result ≡ record { nodes = nodes; links = links; master = master; targets = targets } }
     {
-        name.known();
-        let mut nodes = Listed::new(alloc);
-        nodes.push(Node {
-            name,
-            time: Some(time),
-        })?;
-        Ok(Platform {
+        Platform {
             nodes,
-            links: Listed::new(alloc),
-            master: 0,
-            targets: Listed::new(alloc),
-        })
+            links,
+            master,
+            targets,
+        }
     }
 
     /// The nodes, by their numbers.
@@ -210,6 +229,14 @@ impl Platform {
         ensures { result.now ≡ self.now.targets }
     {
         self.targets.as_slice()
+    }
+
+    /// The number of the master, where routes begin.
+    pub fn master(&self) -> u32
+        ensures value { result ≡ self.now.master }
+        ensures exists { result < length self.now.nodes }
+    {
+        self.master
     }
 
     /// Whether a node holds as many tasks and messages as are wanted.

@@ -1,6 +1,6 @@
 //! Platforms in ticks.
 
-ghost use Rattle.std.specs.Prelude.{◌≡◌, ◌<◌, ◌≤◌, length, slice_get, Some};
+ghost use Rattle.std.specs.Prelude.{◌≡◌, ◌<◌, ◌≤◌, length, slice_get, slice_index_or, Some, None, IfSome};
 ghost use Rattle.platform_file.specs.Ticks.{IsTimed};
 
 use crate::platform::Platform;
@@ -70,7 +70,9 @@ impl Timed {
     /// The ticks of a task at a node, where the node computes.
     pub fn time(&self, node: u32) -> Option<u64>
         requires { node < length self.now.platform.nodes }
-        ensures { slice_get self.now.times node ≡ Some result }
+        ensures value { slice_get self.now.times node ≡ Some result }
+        ensures index { slice_index_or self.now.times node None ≡ result }
+        ensures lasts { IfSome result (λ ticks. 1 ≤ ticks) }
     {
         self.times.as_slice()[node as usize]
     }
@@ -78,7 +80,8 @@ impl Timed {
     /// The ticks of a task or message over a link.
     pub fn cost(&self, link: u32) -> u64
         requires { link < length self.now.platform.links }
-        ensures { slice_get self.now.costs link ≡ Some result }
+        ensures value { slice_get self.now.costs link ≡ Some result }
+        ensures lasts { 1 ≤ result }
     {
         self.costs.as_slice()[link as usize]
     }

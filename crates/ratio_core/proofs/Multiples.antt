@@ -6,8 +6,9 @@ use Rattle.std.proofs.lemmas.Bool.{cases_lt}
 use Rattle.std.proofs.lemmas.Nat.{mul-le}
 use Rattle.std.proofs.lemmas.Nat.Gcd.{IsGcd-from_zero, IsGcd-swap, IsGcd-from_sub, same_from_IsGcd, dvd_of_mod-eq-zero, mod-eq-zero_of_dvd, le_of_dvd}
 use Rattle.std.proofs.Math.Nat.{div-mul_cancel, mul-dvd-mul_right, dvd_of_mul-dvd-mul_right, dvd-mul_left, dvd-mul_right, zero-mul, mul_comm, mul_right_comm, mul_assoc, lt-div-mul-add, div-mul-le_self}
-use Rattle.ratio_core.specs.Multiples.{IsLeastCommonMultiple}
-use Rattle.ratio_core.proofs.GcdLemmas.{gcd_positive, quotient_positive}
+use Rattle.ratio_core.specs.Multiples.{IsLeastCommonMultiple, lcm_of}
+use Rattle.ratio_core.specs.Fraction.{gcd_of}
+use Rattle.ratio_core.proofs.GcdLemmas.{gcd_positive, quotient_positive, gcd_of_is}
 
 -- a common divisor that stays the greatest when both numbers are taken n times
 record Scaled (a b n : ℕ) : Type 0 where
@@ -88,6 +89,7 @@ module _ (a b g : ℕ) (first : 1 ≤ a) (second : 1 ≤ b) (h : IsGcd a b g) wh
     of_first = mod-eq-zero_of_dvd a (subst (λ x. a ∣ x) of_first (dvd-mul_right a (b / g)));
     of_second = mod-eq-zero_of_dvd b (dvd-mul_left b (a / g));
     least = λ m some of_first of_second. le_of_dvd (omega arith) (divides m (dvd_of_mod-eq-zero a of_first) (dvd_of_mod-eq-zero b of_second));
+    divides = λ m of_first of_second. mod-eq-zero_of_dvd (a / g * b) (divides m (dvd_of_mod-eq-zero a of_first) (dvd_of_mod-eq-zero b of_second));
   }
     where
       some : 1 ≤ a / g * b
@@ -110,3 +112,11 @@ stays share b max h =
     let bound : max / b * b ≤ max = div-mul-le_self max b in
     let less : share * b ≤ max / b * b = mul-le share b (max / b) b h (omega arith) in
     omega (arith, bound, less)
+
+-- some greatest common divisor exists, and the searched one is it
+searched_is_gcd : (a b : ℕ) → IsGcd a b (gcd_of a b)
+searched_is_gcd a b = let s = scaling (a + b) a b 1 (omega arith) in subst (IsGcd a b) (gcd_of_is a b s.divisor s.plain) s.plain
+
+-- the multiple by the searched divisor
+pub searched_multiple : (a b : ℕ) → 1 ≤ a → 1 ≤ b → IsLeastCommonMultiple a b (lcm_of a b)
+searched_multiple a b first second = least_multiple a b (gcd_of a b) first second (searched_is_gcd a b)

@@ -1,11 +1,18 @@
 -- Fractions written as text.
-use Rattle.std.specs.Prelude.{ℕ, ◌∷◌, ◌^◌, ◌-◌, Bool, ◌&&◌, ◌||◌, if◌then◌else◌, nat_eq, nat_lt, List, [], length, Result, Ok, Err}
+use Rattle.std.specs.Prelude.{ℕ, ◌∷◌, ◌^◌, ◌-◌, ◌≤◌, Bool, ◌&&◌, ◌||◌, if◌then◌else◌, nat_eq, nat_lt, List, [], length, Result, Ok, Err}
 use Rattle.std.specs.Char.{is_ascii_digit}
 use Rattle.std.specs.List.{list_all, position_or_len, before_first, after_first}
 use Rattle.std.specs.Str.Parse.{digits_value}
 use Rattle.ratio_core.specs.Fraction.{Fraction, reduced}
 use Rattle.ratio_core.specs.declared.text.RatioFault.{RatioFault}
 use Rattle.ratio_core.specs.declared.text.RatioFault.TheVariants.{Shape, Zero, TooLarge}
+
+-- both parts are from 1 to a million
+pub record HasSmallParts (f : Fraction) : Type 0 where
+  pub some_num : 1 ≤ f.num
+  pub small_num : f.num ≤ 1000000
+  pub some_den : 1 ≤ f.den
+  pub small_den : f.den ≤ 1000000
 
 -- at least one digit, and nothing but digits
 abbrev pub is_number : List ℕ → Bool

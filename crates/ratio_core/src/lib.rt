@@ -6,5 +6,5 @@ mod ratio;
 mod tests;
 mod text;
 
-pub use ratio::{Ratio, gcd, lcm_within};
+pub use ratio::{Ratio, gcd, lcm_within, multiples_are_least};
 pub use text::{RatioFault, parse_ratio};

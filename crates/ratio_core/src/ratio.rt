@@ -1,9 +1,9 @@
 //! Fractions in lowest terms.
 
-ghost use Rattle.std.specs.Prelude.{◌≡◌, ℕ, ◌<◌, ◌≤◌, None, IfSome};
+ghost use Rattle.std.specs.Prelude.{◌≡◌, ℕ, ◌≤◌, Some, None, cond, nat_le};
 ghost use Rattle.std.specs.Int.{IsGcd};
 ghost use Rattle.ratio_core.specs.Fraction.{reduced, gcd_of};
-ghost use Rattle.ratio_core.specs.Multiples.{IsLeastCommonMultiple};
+ghost use Rattle.ratio_core.specs.Multiples.{IsLeastCommonMultiple, lcm_of};
 
 use std::marker::Model;
 
@@ -23,8 +23,8 @@ pub fn gcd(a: u128, b: u128) -> u128
 pub fn lcm_within(a: u128, b: u128, max: u128) -> Option<u128>
     requires first { 1 ≤ a }
     requires second { 1 ≤ b }
-    ensures within { IfSome result (λ multiple. IsLeastCommonMultiple a b multiple × (multiple ≤ max)) }
-    ensures beyond { result ≡ None → (multiple : ℕ) → IsLeastCommonMultiple a b multiple → max < multiple }
+    ensures value { result ≡ cond (nat_le (lcm_of a b) max) (Some (lcm_of a b)) None }
+    ensures least { IsLeastCommonMultiple a b (lcm_of a b) }
 {
     let share = a / gcd(a, b);
     if share <= max / b {
@@ -33,6 +33,11 @@ pub fn lcm_within(a: u128, b: u128, max: u128) -> Option<u128>
         None
     }
 }
+
+/// Two numbers of at least 1 have a least common multiple, of which every common multiple is a multiple.
+pub fn multiples_are_least()
+    ensures { (a b : ℕ) → 1 ≤ a → 1 ≤ b → IsLeastCommonMultiple a b (lcm_of a b) }
+{}
 
 /// A fraction in lowest terms, with a denominator of at least 1; zero is 0/1.
 #[derive(Clone, Copy, Debug, PartialEq, Eq)]

@@ -13,7 +13,7 @@ use Rattle.steady_top.specs.Lanes.{lanes_of}
 use Rattle.steady_top.specs.TableSchedules.{table_schedule}
 use Rattle.steady_top.specs.Tables.{Fits}
 use Rattle.steady_top.specs.Best.{IsBest}
-use Rattle.steady_top.proofs.LoneBest.{valid}
+use Rattle.steady_top.proofs.LoneBest.{busy_valid}
 
 -- a chain of a master and two workers
 abbrev chain : TimedView
@@ -72,12 +72,12 @@ lone = record {
 -- a lower rate than the best one is no upper rate: the best table's first period passes it
 too_low : IsUpperRate lone Tasking 1 3 → ⊥
 too_low h =
-    let bad = h.bounds (table_schedule lone Tasking (lone_table lone) 1) (valid lone 2 refl refl refl (omega arith) (omega arith) 1) in
+    let bad = h.bounds (table_schedule lone Tasking (lone_table lone) 1) (busy_valid lone 2 refl (omega arith) (omega arith) 1) in
     absurd (omega (arith, bad))
 
 -- so a table that idles for a tick in each period is not best, though it fits
 abbrev slow_table : Table
-slow_table = record { period = 3; tasks = 1; depth = 0; routes = lone_route ∷ []; slots = idle_slot 3 ∷ [] }
+slow_table = record { period = 3; tasks = 1; depth = 0; routes = lone_route 0 ∷ []; slots = idle_slot 3 ∷ [] }
 
 not_best : IsBest lone Tasking slow_table → ⊥
 not_best h = too_low h.upper
@@ -91,7 +91,7 @@ not_fitting h = let bad = h.some_slot in absurd (omega (arith, bad))
 
 -- nor does one whose period isn't the sum of its slots
 abbrev short_table : Table
-short_table = record { period = 1; tasks = 1; depth = 0; routes = lone_route ∷ []; slots = idle_slot 2 ∷ [] }
+short_table = record { period = 1; tasks = 1; depth = 0; routes = lone_route 0 ∷ []; slots = idle_slot 2 ∷ [] }
 
 not_fitting_either : Fits lone Tasking short_table → ⊥
 not_fitting_either h = let bad = h.period in absurd (omega (arith, bad))

@@ -1,8 +1,8 @@
-pub mod LoneTimes
 pub mod LoneRate
 pub mod LoneSchedules
 pub mod LoneFits
 pub mod LoneBest
+pub mod LonePlans
 pub mod Responses
 pub mod Plans
 pub mod Examples

@@ -1,16 +1,20 @@
 -- Planning a named file, from what was read of it.
-use Rattle.std.proofs.Common.{◌≡◌, ◌∙◌, ℕ, suc, ◌+◌, ◌<◌, ◌≤◌, nat_lt, false, cond, List, length, replicate, Option, Some, None, Result, Ok, Err, MatchResult, refl, sym, ap, arith}
+use Rattle.std.proofs.Common.{◌≡◌, ◌∙◌, ℕ, suc, ◌+◌, ◌<◌, ◌≤◌, nat_lt, true, false, cond, List, length, replicate, Option, Some, None, Result, Ok, Err, MatchResult, refl, sym, ap, arith}
 use Rattle.std.proofs.lemmas.Bool.{lt-ltb, le-ltb}
 use Rattle.std.proofs.lemmas.List.{length-replicate}
 use Rattle.outside_io.specs.Files.{Told, untold, absent, contents, FilesView}
 use Rattle.outside_io.specs.Reading.{MayHold, MayPass}
 use Rattle.platform_file.specs.declared.fault.Kind.TheVariants.{Text}
 use Rattle.platform_file.specs.Platform.{PlatformView}
-use Rattle.platform_file.specs.Reading.{most_bytes, platform_of, timed_of}
+use Rattle.platform_file.specs.Reading.{most_bytes, platform_of, IsFaultOf}
+use Rattle.platform_file.specs.declared.fault.PlatformFault.{PlatformFault}
+use Rattle.platform_file.specs.declared.fault.PlatformFault.TheVariants as fault
+use Rattle.platform_file.specs.Ticks.{TimedView, timed_of}
+use Rattle.std.specs.Result.{IsErr, IsErrAnd}
 use Rattle.schedule_model.specs.declared.schedule.Series.TheVariants.{Tasking}
-use Rattle.steady_top.specs.LoneTables.{lone_table}
+use Rattle.steady_top.specs.LoneTables.{uses_links, lone_table}
 use Rattle.steady_top.specs.PlanText.{plan_text}
-use Rattle.steady_top.specs.Refusals.{Refusal, usage, limit, not_toml, form_not_yet, cannot_read, no_memory}
+use Rattle.steady_top.specs.Refusals.{Reason, limit, not_toml, bad_field, twice_named, unknown, target_is_master, target_twice, self_link, twice_linked, bad_ratio, links_not_yet, Refusal, usage, refused, cannot_read, no_memory, platform_refusal}
 use Rattle.steady_top.specs.Outcomes.{plan, command_of, Outcome, prints, refuses, plan_of_platform, plan_of_file, outcome_of}
 use Rattle.steady_top.specs.Answers.{MayBe, IsToRefuse, IsCause, IsAnswer}
 use Rattle.steady_top.specs.Planned.{IsPlanned, IsFileRefused, IsPlanFault}
@@ -30,13 +34,21 @@ longer untold most h = (replicate (suc most) 0, tt, more_zeros most)
 longer absent most h = absurd h
 longer (contents file) most h = (file, refl, h)
 
-pub longer_is_refused : (bytes : List ℕ) → most_bytes < length bytes → plan_of_file bytes ≡ refuses (limit Text (most_bytes + 1))
+pub longer_is_refused : (bytes : List ℕ) → most_bytes < length bytes → plan_of_file bytes ≡ refuses (refused (limit Text (most_bytes + 1)))
 longer_is_refused bytes h = rw (lt-ltb most_bytes (length bytes) h) refl
 
-pub whole_is_planned : (bytes : List ℕ) (p : PlatformView) → length bytes ≤ most_bytes → platform_of bytes ≡ Ok p →
-    plan_of_file bytes ≡ prints (plan_text (timed_of p) Tasking (lone_table (timed_of p)))
-whole_is_planned bytes p h read = let short : nat_lt most_bytes (length bytes) ≡ false = le-ltb most_bytes (length bytes) h in
-    ap (λ long. cond long (refuses (limit Text (most_bytes + 1))) (plan_of_platform (platform_of bytes))) short ∙ ap plan_of_platform read
+pub whole_is_planned : (bytes : List ℕ) (read : Result PlatformView PlatformFault) → length bytes ≤ most_bytes → platform_of bytes ≡ read → plan_of_file bytes ≡ plan_of_platform read
+whole_is_planned bytes read h is =
+    let short : nat_lt most_bytes (length bytes) ≡ false = le-ltb most_bytes (length bytes) h in
+    ap (λ long. cond long (refuses (refused (limit Text (most_bytes + 1)))) (plan_of_platform (platform_of bytes))) short ∙ ap plan_of_platform is
+
+pub links_are_refused : (bytes : List ℕ) (p : PlatformView) (t : TimedView) → length bytes ≤ most_bytes → platform_of bytes ≡ Ok p → timed_of p ≡ Ok t →
+    uses_links t.platform ≡ true → plan_of_file bytes ≡ refuses (refused links_not_yet)
+links_are_refused bytes p t h read in_ticks used = whole_is_planned bytes (Ok p) h read ∙ rw (in_ticks, used) refl
+
+pub table_is_planned : (bytes : List ℕ) (p : PlatformView) (t : TimedView) → length bytes ≤ most_bytes → platform_of bytes ≡ Ok p → timed_of p ≡ Ok t →
+    uses_links t.platform ≡ false → plan_of_file bytes ≡ prints (plan_text t Tasking (lone_table t))
+table_is_planned bytes p t h read in_ticks unused = whole_is_planned bytes (Ok p) h read ∙ rw (in_ticks, unused) refl
 
 -- files that hold what is told, and these bytes where nothing is told
 abbrev pub chosen : Told → List ℕ → Option (List ℕ)
@@ -75,32 +87,57 @@ plan_is_answer words before after name text command planned = record {
     file = planned.file;
     platform = planned.platform;
     read = planned.read;
+    timed = planned.timed;
+    in_ticks = planned.in_ticks;
     table = planned.table;
     best = planned.best;
     is_plan = planned.is_plan;
   };
 }
 
-refused_file : (words : List (List ℕ)) (before : FilesView) (name : List ℕ) (refusal : Refusal) → command_of words ≡ Some (plan name) →
-    IsFileRefused before name refusal → IsToRefuse words before refusal
-refused_file words before name refusal command refused = record {
-  files = λ other. chosen (before.held other) refused.bytes;
-  told = λ other. chosen_may_be (before.held other) refused.bytes;
-  outcome = chosen_outcome words before name refused.bytes (refuses refusal) command refused.file refused.outcome;
+refused_file : (words : List (List ℕ)) (before : FilesView) (name : List ℕ) (reason : Reason) → command_of words ≡ Some (plan name) →
+    IsFileRefused before name reason → IsToRefuse words before reason
+refused_file words before name reason command file = record {
+  files = λ other. chosen (before.held other) file.bytes;
+  told = λ other. chosen_may_be (before.held other) file.bytes;
+  outcome = chosen_outcome words before name file.bytes (refuses (refused reason)) command file.file file.outcome;
 }
 
 pub fault_is_cause : (words : List (List ℕ)) (before after : FilesView) (name : List ℕ) (refusal : Refusal) → command_of words ≡ Some (plan name) →
     IsPlanFault before name after refusal → IsCause words before after refusal
 fault_is_cause words before after name usage command fault = absurd fault
-fault_is_cause words before after name (limit kind found) command fault = refused_file words before name (limit kind found) command fault
-fault_is_cause words before after name not_toml command fault = refused_file words before name not_toml command fault
-fault_is_cause words before after name form_not_yet command fault = refused_file words before name form_not_yet command fault
+fault_is_cause words before after name (refused reason) command fault = refused_file words before name reason command fault
 fault_is_cause words before after name (cannot_read named) command fault = record {
   command = rw fault.same command;
   cause = rw fault.same fault.cause;
   one_open = fault.one_open;
 }
 fault_is_cause words before after name no_memory command fault = tt
+
+-- the fault of a platform file is why there is no plan
+module _ (before after : FilesView) (name bytes : List ℕ) (file : MayBe (before.held name) (Some bytes)) (short : length bytes ≤ most_bytes) where
+  for_reason : (fault : PlatformFault) (refusal : Refusal) (reason : Reason) → platform_of bytes ≡ Err fault → refusal ≡ platform_refusal fault → platform_refusal fault ≡ refused reason →
+      IsPlanFault before name after refusal
+  for_reason fault refusal reason read is named =
+      rw (is ∙ named) (record { bytes = bytes; file = file; outcome = whole_is_planned bytes (Err fault) short read ∙ ap refuses named })
+
+  pub fault_is_planned : (fault : PlatformFault) (refusal : Refusal) → IsFaultOf fault (platform_of bytes) → refusal ≡ platform_refusal fault → IsPlanFault before name after refusal
+  fault_is_planned (fault.Limit kind found) refusal read is = for_reason (fault.Limit kind found) refusal (limit kind found) read is refl
+  fault_is_planned fault.NotToml refusal read is = for_reason fault.NotToml refusal not_toml read is refl
+  fault_is_planned (fault.BadField place) refusal read is = for_reason (fault.BadField place) refusal (bad_field place) read is refl
+  fault_is_planned (fault.TwiceNamed node) refusal read is = for_reason (fault.TwiceNamed node) refusal (twice_named node) read is refl
+  fault_is_planned (fault.Unknown place) refusal read is = for_reason (fault.Unknown place) refusal (unknown place) read is refl
+  fault_is_planned (fault.TargetIsMaster target) refusal read is = for_reason (fault.TargetIsMaster target) refusal (target_is_master target) read is refl
+  fault_is_planned (fault.TargetTwice target) refusal read is = for_reason (fault.TargetTwice target) refusal (target_twice target) read is refl
+  fault_is_planned (fault.SelfLink link) refusal read is = for_reason (fault.SelfLink link) refusal (self_link link) read is refl
+  fault_is_planned (fault.TwiceLinked link) refusal read is = for_reason (fault.TwiceLinked link) refusal (twice_linked link) read is refl
+  fault_is_planned (fault.BadRatio place cause) refusal read is = for_reason (fault.BadRatio place cause) refusal (bad_ratio place cause) read is refl
+  fault_is_planned fault.NoMemory refusal read is = rw is tt
+
+-- what holds of an error holds of the result that has it
+pub of_error : {A E : Type 0} (P : A → Type 0) {Q R : E → Type 0} (r : Result A E) → IsErr r → IsErrAnd r R → ((e : E) → R e → Q e) → MatchResult r P Q
+of_error P (Ok x) bad h f = let none : false ≡ true = bad in cc
+of_error P (Err e) is h f = f e h
 
 -- what holds of a result's value and of its error
 pub both_ways : {A E : Type 0} {P P' : A → Type 0} {Q Q' : E → Type 0} (r : Result A E) → ((x : A) → P x → P' x) → ((e : E) → Q e → Q' e) →

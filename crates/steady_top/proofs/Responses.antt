@@ -5,57 +5,72 @@ use Rattle.outside_io.specs.Files.{Told, untold, absent, contents, FilesView, Ma
 use Rattle.outside_io.specs.Sinks.{SinkView}
 use Rattle.steady_top.specs.declared.status.Status.{Status}
 use Rattle.steady_top.specs.declared.status.Status.TheVariants as status
-use Rattle.steady_top.specs.Refusals.{Refusal, usage, limit, not_toml, form_not_yet, cannot_read, no_memory, status_of, error_line}
+use Rattle.steady_top.specs.Refusals.{Reason, limit, not_toml, bad_field, twice_named, unknown, target_is_master, target_twice, self_link, twice_linked, bad_ratio, unit, links_not_yet, Refusal, usage, refused, cannot_read, no_memory, reason_status, status_of, error_line}
 use Rattle.steady_top.specs.Outcomes.{Command, plan, command_of, prints, refuses, outcome_of_command, outcome_of}
-use Rattle.steady_top.specs.Answers.{MayBe, IsToldAs, MayBeFiles, AreToldAs, IsToRefuse, IsCause, IsPrinted, IsBestPrinted, IsRefused, IsPlatformRefused, IsCutShort, IsResponse, IsStatus}
+use Rattle.steady_top.specs.Answers.{MayBe, IsToldAs, MayBeFiles, AreToldAs, IsToRefuse, IsCause, IsPrinted, IsBestPrinted, IsRefused, IsRefusedWith, IsCutShort, IsResponse, IsStatus}
+
+-- a reason is of the platform file, or of a number that passed its bound
+one_of_two : (reason : Reason) → (reason_status reason ≡ status.Platform) ⊎ (reason_status reason ≡ status.Overflow)
+one_of_two (limit kind found) = inl refl
+one_of_two not_toml = inl refl
+one_of_two (bad_field place) = inl refl
+one_of_two (twice_named node) = inl refl
+one_of_two (unknown place) = inl refl
+one_of_two (target_is_master target) = inl refl
+one_of_two (target_twice target) = inl refl
+one_of_two (self_link link) = inl refl
+one_of_two (twice_linked link) = inl refl
+one_of_two (bad_ratio place cause) = inl refl
+one_of_two (unit left right) = inr refl
+one_of_two links_not_yet = inl refl
+
+-- so a refusal of what was read has no other status
+not_of_reason : (reason : Reason) (due : Status) → (status.Platform ≡ due → ⊥) → (status.Overflow ≡ due → ⊥) → reason_status reason ≡ due → ⊥
+not_of_reason reason due no_platform no_overflow e =
+    elim (one_of_two reason) [ inl is ↦ no_platform (sym is ∙ e) | inr is ↦ no_overflow (sym is ∙ e) ]
 
 -- which refusal has which status
 never_done : (refusal : Refusal) → status_of refusal ≡ status.Done → ⊥
 never_done usage e = cc
-never_done (limit kind found) e = cc
-never_done not_toml e = cc
-never_done form_not_yet e = cc
 never_done (cannot_read name) e = cc
+never_done (refused reason) e = not_of_reason reason status.Done (λ e. cc) (λ e. cc) e
 never_done no_memory e = cc
 
 never_write_fault : (refusal : Refusal) → status_of refusal ≡ status.WriteFault → ⊥
 never_write_fault usage e = cc
-never_write_fault (limit kind found) e = cc
-never_write_fault not_toml e = cc
-never_write_fault form_not_yet e = cc
 never_write_fault (cannot_read name) e = cc
+never_write_fault (refused reason) e = not_of_reason reason status.WriteFault (λ e. cc) (λ e. cc) e
 never_write_fault no_memory e = cc
 
 is_usage : (refusal : Refusal) → status_of refusal ≡ status.Usage → refusal ≡ usage
 is_usage usage e = refl
-is_usage (limit kind found) e = cc
-is_usage not_toml e = cc
-is_usage form_not_yet e = cc
 is_usage (cannot_read name) e = cc
+is_usage (refused reason) e = absurd (not_of_reason reason status.Usage (λ e. cc) (λ e. cc) e)
 is_usage no_memory e = cc
 
 is_no_memory : (refusal : Refusal) → status_of refusal ≡ status.NoMemory → refusal ≡ no_memory
 is_no_memory usage e = cc
-is_no_memory (limit kind found) e = cc
-is_no_memory not_toml e = cc
-is_no_memory form_not_yet e = cc
 is_no_memory (cannot_read name) e = cc
+is_no_memory (refused reason) e = absurd (not_of_reason reason status.NoMemory (λ e. cc) (λ e. cc) e)
 is_no_memory no_memory e = refl
 
 is_cannot_read : (refusal : Refusal) → status_of refusal ≡ status.ReadFault → (name : List ℕ) × (refusal ≡ cannot_read name)
 is_cannot_read usage e = cc
-is_cannot_read (limit kind found) e = cc
-is_cannot_read not_toml e = cc
-is_cannot_read form_not_yet e = cc
 is_cannot_read (cannot_read name) e = (name, refl)
+is_cannot_read (refused reason) e = absurd (not_of_reason reason status.ReadFault (λ e. cc) (λ e. cc) e)
 is_cannot_read no_memory e = cc
+
+-- a refusal with one of the two statuses is of what was read
+is_of_reason : (refusal : Refusal) (due : Status) → (due ≡ status.Platform) ⊎ (due ≡ status.Overflow) → status_of refusal ≡ due → (reason : Reason) × (refusal ≡ refused reason)
+is_of_reason usage due two e = elim two [ inl is ↦ let bad = e ∙ is in cc | inr is ↦ let bad = e ∙ is in cc ]
+is_of_reason (cannot_read name) due two e = elim two [ inl is ↦ let bad = e ∙ is in cc | inr is ↦ let bad = e ∙ is in cc ]
+is_of_reason (refused reason) due two e = (reason, refl)
+is_of_reason no_memory due two e = elim two [ inl is ↦ let bad = e ∙ is in cc | inr is ↦ let bad = e ∙ is in cc ]
 
 has_status : (refusal : Refusal) → IsStatus (status_of refusal)
 has_status usage = tt
-has_status (limit kind found) = tt
-has_status not_toml = tt
-has_status form_not_yet = tt
 has_status (cannot_read name) = tt
+has_status (refused reason) = elim (one_of_two reason) [ inl is ↦ rw is tt | inr is ↦ rw is tt ]
 has_status no_memory = tt
 
 -- files that tell all are the ones that may have been read
@@ -77,8 +92,8 @@ same_outcome words before holds read told may = same_command (command_of words) 
 abbrev pub IsOutcome : List (List ℕ) → FilesView → Refusal → Type 0
 IsOutcome words before refusal = (holds : List ℕ → Option (List ℕ)) → AreToldAs before holds → outcome_of words holds ≡ refuses refusal
 
-refused_outcome : (words : List (List ℕ)) (before : FilesView) (refusal : Refusal) → IsToRefuse words before refusal → IsOutcome words before refusal
-refused_outcome words before refusal cause holds told = same_outcome words before holds cause.files told cause.told ∙ cause.outcome
+refused_outcome : (words : List (List ℕ)) (before : FilesView) (reason : Reason) → IsToRefuse words before reason → IsOutcome words before (refused reason)
+refused_outcome words before reason cause holds told = same_outcome words before holds cause.files told cause.told ∙ cause.outcome
 
 absent_outcome : (words : List (List ℕ)) (before : FilesView) (name : List ℕ) → command_of words ≡ Some (plan name) → before.held name ≡ absent →
     IsOutcome words before (cannot_read name)
@@ -94,9 +109,7 @@ no_fault (contents bytes) before after calm h = absurd (calm h)
 cause_is_outcome : (words : List (List ℕ)) (before after : FilesView) (refusal : Refusal) → (Rose before.faults after.faults → ⊥) →
     IsCause words before after refusal → (refusal ≡ no_memory) ⊎ IsOutcome words before refusal
 cause_is_outcome words before after usage calm cause = inr (λ holds told. rw cause refl)
-cause_is_outcome words before after (limit kind found) calm cause = inr (refused_outcome words before (limit kind found) cause)
-cause_is_outcome words before after not_toml calm cause = inr (refused_outcome words before not_toml cause)
-cause_is_outcome words before after form_not_yet calm cause = inr (refused_outcome words before form_not_yet cause)
+cause_is_outcome words before after (refused reason) calm cause = inr (refused_outcome words before reason cause)
 cause_is_outcome words before after (cannot_read name) calm cause =
     inr (absent_outcome words before name cause.command (no_fault (before.held name) _ _ calm cause.cause))
 cause_is_outcome words before after no_memory calm cause = inl refl
@@ -127,8 +140,8 @@ module _ (words : List (List ℕ)) (before after : FilesView) (empty full : Sink
   ]
 
   -- a status that is neither Done nor WriteFault comes of a refusal whose line was written
-  refused : (result ≡ status.Done → ⊥) → (result ≡ status.WriteFault → ⊥) → (refusal : Refusal) × (result ≡ status_of refusal) × IsRefused words before after empty full refusal
-  refused not_done not_cut = elim response [
+  refusing : (result ≡ status.Done → ⊥) → (result ≡ status.WriteFault → ⊥) → (refusal : Refusal) × (result ≡ status_of refusal) × IsRefused words before after empty full refusal
+  refusing not_done not_cut = elim response [
     | inl attempt ↦ elim attempt.ends [ inl whole ↦ absurd (not_done whole.0) | inr cut ↦ absurd (not_cut cut.0) ]
     | inr attempt ↦ elim attempt.ends [
       | inl whole ↦ (attempt.refusal, whole.0, record { cause = attempt.cause; written = whole.1 })
@@ -139,7 +152,7 @@ module _ (words : List (List ℕ)) (before after : FilesView) (empty full : Sink
   refused_as : (due : Status) → (due ≡ status.Done → ⊥) → (due ≡ status.WriteFault → ⊥) → result ≡ due →
       (refusal : Refusal) × (status_of refusal ≡ due) × IsRefused words before after empty full refusal
   refused_as due not_done not_cut is =
-      let found = refused (λ e. not_done (sym is ∙ e)) (λ e. not_cut (sym is ∙ e)) in
+      let found = refusing (λ e. not_done (sym is ∙ e)) (λ e. not_cut (sym is ∙ e)) in
       (found.0, sym found.1 ∙ is, found.2)
 
   pub refused_usage : result ≡ status.Usage → IsRefused words before after empty full usage
@@ -147,10 +160,12 @@ module _ (words : List (List ℕ)) (before after : FilesView) (empty full : Sink
       let found = refused_as status.Usage (λ e. cc) (λ e. cc) is in
       rw (is_usage found.0 found.1) at found.2
 
-  pub refused_platform : result ≡ status.Platform → IsPlatformRefused words before after empty full
-  refused_platform is =
-      let found = refused_as status.Platform (λ e. cc) (λ e. cc) is in
-      record { refusal = found.0; is = found.1; refused = found.2 }
+  pub refused_reason : (due : Status) → (due ≡ status.Platform) ⊎ (due ≡ status.Overflow) → (due ≡ status.Done → ⊥) → (due ≡ status.WriteFault → ⊥) →
+      result ≡ due → IsRefusedWith due words before after empty full
+  refused_reason due two not_done not_cut is =
+      let found = refused_as due not_done not_cut is in
+      let of = is_of_reason found.0 due two found.1 in
+      record { reason = of.0; is = sym (ap status_of of.1) ∙ found.1; refusal = rw of.1 at found.2 }
 
   pub refused_read : result ≡ status.ReadFault → (name : List ℕ) × IsRefused words before after empty full (cannot_read name)
   refused_read is =
@@ -193,7 +208,7 @@ module _ (words : List (List ℕ)) (before after : FilesView) (empty full : Sink
     | inr attempt ↦ elim attempt.ends [
       | inl whole ↦ elim (cause_is_outcome words before after attempt.refusal calm attempt.cause) [
         | inl memory ↦ inr (whole.0 ∙ ap status_of memory)
-        | inr refused ↦ let bad = sym outcome ∙ refused holds told in cc
+        | inr due ↦ let bad = sym outcome ∙ due holds told in cc
       ]
       | inr cut ↦ absurd (calm_sink cut.1.cause)
     ]
@@ -208,8 +223,8 @@ module _ (words : List (List ℕ)) (before after : FilesView) (empty full : Sink
     | inr attempt ↦ elim attempt.ends [
       | inl whole ↦ elim (cause_is_outcome words before after attempt.refusal calm attempt.cause) [
         | inl memory ↦ inr (whole.0 ∙ ap status_of memory)
-        | inr refused ↦
-            let both : refuses refusal ≡ refuses attempt.refusal = sym outcome ∙ refused holds told in
+        | inr due ↦
+            let both : refuses refusal ≡ refuses attempt.refusal = sym outcome ∙ due holds told in
             let one : attempt.refusal ≡ refusal = cc in
             inl (whole.0 ∙ ap status_of one)
       ]
@@ -226,13 +241,11 @@ module _ (words : List (List ℕ)) (before after : FilesView) (empty full : Sink
     ]
   ]
     where
-      other : (refusal : Refusal) → IsToRefuse words before refusal → usage ≡ refusal
-      other refusal cause = let both : refuses usage ≡ refuses refusal = rw none at cause.outcome in cc
+      other : (reason : Reason) → IsToRefuse words before reason → usage ≡ refused reason
+      other reason cause = let both : refuses usage ≡ refuses (refused reason) = rw none at cause.outcome in cc
 
       of_cause : (refusal : Refusal) → IsCause words before after refusal → result ≡ status_of refusal → (result ≡ status.Usage) ⊎ (result ≡ status.NoMemory)
       of_cause usage cause is = inl is
-      of_cause (limit kind found) cause is = let bad = other (limit kind found) cause in cc
-      of_cause not_toml cause is = let bad = other not_toml cause in cc
-      of_cause form_not_yet cause is = let bad = other form_not_yet cause in cc
+      of_cause (refused reason) cause is = let bad = other reason cause in cc
       of_cause (cannot_read name) cause is = let bad = sym none ∙ cause.command in cc
       of_cause no_memory cause is = inr is

@@ -4,14 +4,15 @@ use Rattle.outside_io.specs.Files.{Told, untold, absent, contents, FilesView, Ha
 use Rattle.outside_io.specs.Faults.{raised}
 use Rattle.outside_io.specs.Sinks.{SinkView, IsWholeWritten, IsCutOff}
 use Rattle.platform_file.specs.Platform.{PlatformView}
-use Rattle.platform_file.specs.Reading.{platform_of, timed_of}
+use Rattle.platform_file.specs.Reading.{platform_of}
+use Rattle.platform_file.specs.Ticks.{TimedView, timed_of}
 use Rattle.schedule_model.specs.declared.schedule.Series.TheVariants.{Tasking}
 use Rattle.steady_top.specs.declared.status.Status.{Status}
 use Rattle.steady_top.specs.declared.status.Status.TheVariants as status
 use Rattle.steady_top.specs.declared.table.Table.{Table}
 use Rattle.steady_top.specs.Best.{IsBest}
 use Rattle.steady_top.specs.PlanText.{plan_text}
-use Rattle.steady_top.specs.Refusals.{Refusal, usage, limit, not_toml, form_not_yet, cannot_read, no_memory, status_of, error_line}
+use Rattle.steady_top.specs.Refusals.{Reason, Refusal, usage, refused, cannot_read, no_memory, reason_status, status_of, error_line}
 use Rattle.steady_top.specs.Outcomes.{plan, command_of, prints, refuses, outcome_of}
 
 -- this may be what a name holds of which that is told
@@ -41,11 +42,11 @@ pub record IsToPrint (words : List (List ℕ)) (before after : FilesView) (text 
   pub outcome : outcome_of words files ≡ prints text
   pub calm : after.faults ≡ before.faults
 
--- the words and what was read are refused so
-pub record IsToRefuse (words : List (List ℕ)) (before : FilesView) (refusal : Refusal) : Type 0 where
+-- what was read is refused so
+pub record IsToRefuse (words : List (List ℕ)) (before : FilesView) (reason : Reason) : Type 0 where
   pub files : List ℕ → Option (List ℕ)
   pub told : MayBeFiles before files
-  pub outcome : outcome_of words files ≡ refuses refusal
+  pub outcome : outcome_of words files ≡ refuses (refused reason)
 
 -- the file of the words couldn't be opened or read, in the one open of the call
 pub record IsReadFault (words : List (List ℕ)) (before after : FilesView) (name : List ℕ) : Type 0 where
@@ -58,9 +59,7 @@ abbrev pub IsCause : List (List ℕ) → FilesView → FilesView → Refusal →
 IsCause words before after (cannot_read name) = IsReadFault words before after name
 IsCause words before after no_memory = Unit {0}
 IsCause words before after usage = command_of words ≡ None
-IsCause words before after (limit kind found) = IsToRefuse words before (limit kind found)
-IsCause words before after not_toml = IsToRefuse words before not_toml
-IsCause words before after form_not_yet = IsToRefuse words before form_not_yet
+IsCause words before after (refused reason) = IsToRefuse words before reason
 
 -- a text was printed whole, as it was to be
 pub record IsPrinted (words : List (List ℕ)) (before after : FilesView) (empty full : SinkView) : Type 0 where
@@ -93,9 +92,11 @@ pub record IsBestText (words : List (List ℕ)) (before : FilesView) (text : Lis
   pub file : MayBe (before.held name) (Some bytes)
   pub platform : PlatformView
   pub read : platform_of bytes ≡ Ok platform
+  pub timed : TimedView
+  pub in_ticks : timed_of platform ≡ Ok timed
   pub table : Table
-  pub best : IsBest (timed_of platform) Tasking table
-  pub is_plan : text ≡ plan_text (timed_of platform) Tasking table
+  pub best : IsBest timed Tasking table
+  pub is_plan : text ≡ plan_text timed Tasking table
 
 -- such a text was printed whole
 pub record IsBestPrinted (words : List (List ℕ)) (before : FilesView) (empty full : SinkView) : Type 0 where
@@ -103,11 +104,11 @@ pub record IsBestPrinted (words : List (List ℕ)) (before : FilesView) (empty f
   pub best : IsBestText words before text
   pub written : IsWholeWritten empty text full
 
--- the file was refused, by its text or its form
-pub record IsPlatformRefused (words : List (List ℕ)) (before after : FilesView) (empty full : SinkView) : Type 0 where
-  pub refusal : Refusal
-  pub is : status_of refusal ≡ status.Platform
-  pub refused : IsRefused words before after empty full refusal
+-- what was read was refused for a reason of this status
+pub record IsRefusedWith (due : Status) (words : List (List ℕ)) (before after : FilesView) (empty full : SinkView) : Type 0 where
+  pub reason : Reason
+  pub is : reason_status reason ≡ due
+  pub refusal : IsRefused words before after empty full (refused reason)
 
 -- the text that is due was written, with its status, or a write failed
 abbrev pub Ends : Status → List ℕ → SinkView → SinkView → Status → Type 0
@@ -137,7 +138,6 @@ IsResponse words before after empty full result =
 
 -- a status that the program can end with so far
 abbrev pub IsStatus : Status → Type 0
-IsStatus status.Overflow = ⊥
 IsStatus status.Spent = ⊥
 IsStatus status.TooLong = ⊥
 IsStatus status.Refused = ⊥

@@ -1,13 +1,22 @@
 -- The refusal that a fault of the code stands for.
 use Rattle.steady_top.specs.declared.fault.TopFault.{TopFault}
 use Rattle.steady_top.specs.declared.fault.TopFault.TheVariants as top
-use Rattle.steady_top.specs.Refusals.{Refusal, usage, limit, not_toml, form_not_yet, cannot_read, no_memory}
+use Rattle.steady_top.specs.Refusals.{Refusal, usage, cannot_read, refused, no_memory, limit, not_toml, bad_field, twice_named, unknown, target_is_master, target_twice, self_link, twice_linked, bad_ratio, unit, links_not_yet}
 
 -- each fault is the refusal of its name
 abbrev pub refusal_of : TopFault → Refusal
 refusal_of top.Usage = usage
-refusal_of (top.Limit kind found) = limit kind found
-refusal_of top.NotToml = not_toml
-refusal_of top.FormNotYet = form_not_yet
 refusal_of (top.CannotRead name) = cannot_read name.now
+refusal_of (top.Limit kind found) = refused (limit kind found)
+refusal_of top.NotToml = refused not_toml
+refusal_of (top.BadField place) = refused (bad_field place)
+refusal_of (top.TwiceNamed node) = refused (twice_named node)
+refusal_of (top.Unknown place) = refused (unknown place)
+refusal_of (top.TargetIsMaster target) = refused (target_is_master target)
+refusal_of (top.TargetTwice target) = refused (target_twice target)
+refusal_of (top.SelfLink link) = refused (self_link link)
+refusal_of (top.TwiceLinked link) = refused (twice_linked link)
+refusal_of (top.BadRatio place cause) = refused (bad_ratio place cause)
+refusal_of (top.Unit left right) = refused (unit left right)
+refusal_of top.LinksNotYet = refused links_not_yet
 refusal_of top.NoMemory = no_memory

@@ -2,54 +2,120 @@
 use Rattle.std.specs.Prelude.{ℕ, List, ◌++◌, codes, decimal}
 use Rattle.platform_file.specs.declared.fault.PlatformFault.{PlatformFault}
 use Rattle.platform_file.specs.declared.fault.PlatformFault.TheVariants as fault
+use Rattle.platform_file.specs.declared.fault.TimedFault.{TimedFault}
+use Rattle.platform_file.specs.declared.fault.TimedFault.TheVariants as ticks
 use Rattle.platform_file.specs.declared.fault.Kind.{Kind}
-use Rattle.platform_file.specs.declared.fault.Kind.TheVariants.{Text}
+use Rattle.platform_file.specs.declared.fault.Kind.TheVariants as kind
+use Rattle.platform_file.specs.declared.fault.Place.{Place}
+use Rattle.platform_file.specs.Places.{place_text}
+use Rattle.ratio_core.specs.declared.text.RatioFault.{RatioFault}
+use Rattle.ratio_core.specs.declared.text.RatioFault.TheVariants as ratio
 use Rattle.steady_top.specs.declared.status.Status.{Status}
 use Rattle.steady_top.specs.declared.status.Status.TheVariants as status
 use Rattle.steady_top.specs.PlanText.{line}
 
--- a reason, with what its error line names
+-- why what was read is refused, with what the error line names
+pub data Reason : Type 0 where
+  -- the platform file has more of a kind than is allowed
+  limit : Kind → ℕ → Reason
+  -- the platform file is no TOML document
+  not_toml : Reason
+  -- a value is absent or of another type, or a key isn't the format's
+  bad_field : Place → Reason
+  -- the node has an earlier node's name
+  twice_named : ℕ → Reason
+  -- a name is no node's
+  unknown : Place → Reason
+  -- the target is the master
+  target_is_master : ℕ → Reason
+  -- the target is an earlier one
+  target_twice : ℕ → Reason
+  -- the link joins a node to itself
+  self_link : ℕ → Reason
+  -- the link joins what an earlier one joins
+  twice_linked : ℕ → Reason
+  -- a time or cost is no fraction
+  bad_ratio : Place → RatioFault → Reason
+  -- the ticks of a time unit pass their bound at these two numbers
+  unit : ℕ → ℕ → Reason
+  -- a plan would use a link, and such plans aren't built yet
+  links_not_yet : Reason
+
+-- a refusal, with what its error line names
 pub data Refusal : Type 0 where
   -- the words are no command
   usage : Refusal
-  -- the file has more of a kind than is allowed
-  limit : Kind → ℕ → Refusal
-  -- the file is no TOML document
-  not_toml : Refusal
-  -- the document has a form that isn't read yet
-  form_not_yet : Refusal
   -- the file with this name can't be opened or read
   cannot_read : List ℕ → Refusal
+  -- what was read is refused
+  refused : Reason → Refusal
   -- memory ran out
   no_memory : Refusal
 
 -- the refusal for a fault of a platform file
 abbrev pub platform_refusal : PlatformFault → Refusal
-platform_refusal (fault.Limit kind found) = limit kind found
-platform_refusal fault.NotToml = not_toml
-platform_refusal fault.FormNotYet = form_not_yet
+platform_refusal (fault.Limit kind found) = refused (limit kind found)
+platform_refusal fault.NotToml = refused not_toml
+platform_refusal (fault.BadField place) = refused (bad_field place)
+platform_refusal (fault.TwiceNamed node) = refused (twice_named node)
+platform_refusal (fault.Unknown place) = refused (unknown place)
+platform_refusal (fault.TargetIsMaster target) = refused (target_is_master target)
+platform_refusal (fault.TargetTwice target) = refused (target_twice target)
+platform_refusal (fault.SelfLink link) = refused (self_link link)
+platform_refusal (fault.TwiceLinked link) = refused (twice_linked link)
+platform_refusal (fault.BadRatio place cause) = refused (bad_ratio place cause)
 platform_refusal fault.NoMemory = no_memory
+
+-- the refusal for a platform that has no ticks
+abbrev pub timed_refusal : TimedFault → Refusal
+timed_refusal (ticks.Unit left right) = refused (unit left right)
+timed_refusal ticks.NoMemory = no_memory
+
+-- the status of a reason
+abbrev pub reason_status : Reason → Status
+reason_status (unit left right) = status.Overflow
+reason_status reason = status.Platform
 
 -- the status with which a refusal ends the program
 abbrev pub status_of : Refusal → Status
 status_of usage = status.Usage
-status_of (limit kind found) = status.Platform
-status_of not_toml = status.Platform
-status_of form_not_yet = status.Platform
 status_of (cannot_read name) = status.ReadFault
+status_of (refused reason) = reason_status reason
 status_of no_memory = status.NoMemory
 
 -- what there is too much of, and how much there is
 abbrev pub limit_text : Kind → ℕ → List ℕ
-limit_text Text found = codes "text of " ++ (decimal found ++ codes " bytes")
+limit_text kind.Text found = codes "text of " ++ (decimal found ++ codes " bytes")
+limit_text kind.Nodes found = codes "too many nodes: " ++ decimal found
+limit_text kind.Links found = codes "too many links: " ++ decimal found
+limit_text kind.Targets found = codes "too many targets: " ++ decimal found
+
+-- why a text is no fraction
+abbrev pub cause_text : RatioFault → List ℕ
+cause_text ratio.Shape = codes "shape"
+cause_text ratio.Zero = codes "zero"
+cause_text ratio.TooLarge = codes "too large"
+
+-- a reason's text
+abbrev pub reason_text : Reason → List ℕ
+reason_text (limit kind found) = codes "platform: " ++ limit_text kind found
+reason_text not_toml = codes "platform: not TOML"
+reason_text (bad_field place) = codes "platform: bad field " ++ place_text place
+reason_text (twice_named node) = codes "platform: node " ++ (decimal node ++ codes " named twice")
+reason_text (unknown place) = codes "platform: unknown name at " ++ place_text place
+reason_text (target_is_master target) = codes "platform: target " ++ (decimal target ++ codes " is the master")
+reason_text (target_twice target) = codes "platform: target " ++ (decimal target ++ codes " named twice")
+reason_text (self_link link) = codes "platform: link " ++ (decimal link ++ codes " joins a node to itself")
+reason_text (twice_linked link) = codes "platform: link " ++ (decimal link ++ codes " given twice")
+reason_text (bad_ratio place cause) = codes "platform: bad ratio at " ++ (place_text place ++ (codes ": " ++ cause_text cause))
+reason_text (unit left right) = codes "ticks overflow: lcm of " ++ (decimal left ++ (codes " and " ++ decimal right))
+reason_text links_not_yet = codes "platform: links not built"
 
 -- the error line's text after `error: `
 abbrev pub refusal_text : Refusal → List ℕ
 refusal_text usage = codes "usage"
-refusal_text (limit kind found) = codes "platform: " ++ limit_text kind found
-refusal_text not_toml = codes "platform: not TOML"
-refusal_text form_not_yet = codes "platform: form not built"
 refusal_text (cannot_read name) = codes "cannot read " ++ name
+refusal_text (refused reason) = reason_text reason
 refusal_text no_memory = codes "out of memory"
 
 -- the whole error line

@@ -1,12 +1,13 @@
 //! Why the program refuses.
 
 ghost use Rattle.std.specs.Prelude.{◌≡◌, IfOk, string_bytes};
-ghost use Rattle.steady_top.specs.Refusals.{status_of, error_line};
+ghost use Rattle.steady_top.specs.Refusals.{status_of, error_line, cause_text};
 ghost use Rattle.steady_top.specs.Faults.{refusal_of};
 
 use crate::status::Status;
 use listed::NoMemory;
-use platform_file::{Kind, PlatformFault};
+use platform_file::{Kind, Place, PlatformFault, TimedFault};
+use ratio_core::RatioFault;
 use std::alloc::Global;
 use std::fmt;
 
@@ -19,12 +20,41 @@ pub enum TopFault<'a> {
     Limit(Kind, u64),
     /// The platform file is no TOML document.
     NotToml,
-    /// The platform file has a form that isn't read yet.
-    FormNotYet,
+    /// A value of the platform file is absent or of another type, or a key isn't the format's.
+    BadField(Place),
+    /// The node has an earlier node's name.
+    TwiceNamed(u32),
+    /// A name is no node's.
+    Unknown(Place),
+    /// The target is the master.
+    TargetIsMaster(u32),
+    /// The target is an earlier one.
+    TargetTwice(u32),
+    /// The link joins a node to itself.
+    SelfLink(u32),
+    /// The link joins what an earlier one joins, in the same direction.
+    TwiceLinked(u32),
+    /// A time or cost is no fraction.
+    BadRatio(Place, RatioFault),
+    /// The ticks of a time unit pass 2^40 at the least common multiple of these two numbers.
+    Unit(u128, u128),
+    /// A plan would use a link, and such plans aren't built yet.
+    LinksNotYet,
     /// The file with this name can't be opened or read.
     CannotRead(&'a str),
     /// Memory ran out.
     NoMemory,
+}
+
+/// The word for why a time or cost is no fraction.
+fn cause_word(cause: RatioFault) -> &'static str
+    ensures { result.now ≡ cause_text cause }
+{
+    match cause {
+        RatioFault::Shape => "shape",
+        RatioFault::Zero => "zero",
+        RatioFault::TooLarge => "too large",
+    }
 }
 
 impl fmt::Display for TopFault<'_> {
@@ -38,8 +68,29 @@ impl fmt::Display for TopFault<'_> {
         match self {
             TopFault::Usage => write!(f, "usage"),
             TopFault::Limit(Kind::Text, found) => write!(f, "platform: text of {found} bytes"),
+            TopFault::Limit(Kind::Nodes, found) => write!(f, "platform: too many nodes: {found}"),
+            TopFault::Limit(Kind::Links, found) => write!(f, "platform: too many links: {found}"),
+            TopFault::Limit(Kind::Targets, found) => write!(
+                f,
+                "platform: too many targets: {found}"
+            ),
             TopFault::NotToml => write!(f, "platform: not TOML"),
-            TopFault::FormNotYet => write!(f, "platform: form not built"),
+            TopFault::BadField(place) => write!(f, "platform: bad field {place}"),
+            TopFault::TwiceNamed(node) => write!(f, "platform: node {node} named twice"),
+            TopFault::Unknown(place) => write!(f, "platform: unknown name at {place}"),
+            TopFault::TargetIsMaster(target) => write!(
+                f,
+                "platform: target {target} is the master"
+            ),
+            TopFault::TargetTwice(target) => write!(f, "platform: target {target} named twice"),
+            TopFault::SelfLink(link) => write!(f, "platform: link {link} joins a node to itself"),
+            TopFault::TwiceLinked(link) => write!(f, "platform: link {link} given twice"),
+            TopFault::BadRatio(place, cause) => {
+                let cause = cause_word(*cause);
+                write!(f, "platform: bad ratio at {place}: {cause}")
+            }
+            TopFault::Unit(left, right) => write!(f, "ticks overflow: lcm of {left} and {right}"),
+            TopFault::LinksNotYet => write!(f, "platform: links not built"),
             TopFault::CannotRead(name) => write!(f, "cannot read {name}"),
             TopFault::NoMemory => write!(f, "out of memory"),
         }
@@ -56,8 +107,29 @@ impl From<PlatformFault> for TopFault<'_> {
         match fault {
             PlatformFault::Limit(kind, found) => TopFault::Limit(kind, found),
             PlatformFault::NotToml => TopFault::NotToml,
-            PlatformFault::FormNotYet => TopFault::FormNotYet,
+            PlatformFault::BadField(place) => TopFault::BadField(place),
+            PlatformFault::TwiceNamed(node) => TopFault::TwiceNamed(node),
+            PlatformFault::Unknown(place) => TopFault::Unknown(place),
+            PlatformFault::TargetIsMaster(target) => TopFault::TargetIsMaster(target),
+            PlatformFault::TargetTwice(target) => TopFault::TargetTwice(target),
+            PlatformFault::SelfLink(link) => TopFault::SelfLink(link),
+            PlatformFault::TwiceLinked(link) => TopFault::TwiceLinked(link),
+            PlatformFault::BadRatio(place, cause) => TopFault::BadRatio(place, cause),
             PlatformFault::NoMemory => TopFault::NoMemory,
+        }
+    }
+}
+
+impl From<TimedFault> for TopFault<'_> {
+    ghost use Rattle.steady_top.specs.Refusals.{timed_refusal};
+    ghost use Rattle.steady_top.specs.Faults.{refusal_of};
+
+    ghost from_gives = { λ fault top. refusal_of top ≡ timed_refusal fault };
+
+    fn from(fault: TimedFault) -> Self {
+        match fault {
+            TimedFault::Unit { left, right } => TopFault::Unit(left, right),
+            TimedFault::NoMemory => TopFault::NoMemory,
         }
     }
 }
@@ -80,7 +152,18 @@ impl TopFault<'_> {
     {
         match self {
             TopFault::Usage => Status::Usage,
-            TopFault::Limit(..) | TopFault::NotToml | TopFault::FormNotYet => Status::Platform,
+            TopFault::Limit(..)
+            | TopFault::NotToml
+            | TopFault::BadField(_)
+            | TopFault::TwiceNamed(_)
+            | TopFault::Unknown(_)
+            | TopFault::TargetIsMaster(_)
+            | TopFault::TargetTwice(_)
+            | TopFault::SelfLink(_)
+            | TopFault::TwiceLinked(_)
+            | TopFault::BadRatio(..)
+            | TopFault::LinksNotYet => Status::Platform,
+            TopFault::Unit(..) => Status::Overflow,
             TopFault::CannotRead(_) => Status::ReadFault,
             TopFault::NoMemory => Status::NoMemory,
         }

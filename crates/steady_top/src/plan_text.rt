@@ -1,10 +1,9 @@
 //! The text of a plan.
 
 ghost use Rattle.std.specs.Prelude.{◌≡◌, ◌++◌, IfOk, OnOk, codes, decimal, string_bytes};
-ghost use Rattle.platform_file.specs.Reading.{IsLoneMaster};
 ghost use Rattle.schedule_model.specs.declared.schedule.Series.{Series};
 ghost use Rattle.steady_top.specs.LoneTables.{lone_table};
-ghost use Rattle.steady_top.specs.PlanText.{line, ratio_text, plan_text};
+ghost use Rattle.steady_top.specs.PlanText.{line, ratio_text, routes_text, slots_text, plan_text};
 
 use crate::table::Table;
 use listed::NoMemory;
@@ -37,10 +36,31 @@ fn push_route(out: &mut String, number: u32, count: u128, name: &str) -> Result<
     Ok(())
 }
 
-/// The text of a lone master's plan.
+/// Appends the line of the route that a master keeps for itself, where it computes.
+fn push_lone_route(out: &mut String, timed: &Timed, table: &Table) -> Result<(), NoMemory>
+    requires { table.now ≡ lone_table timed.now }
+    ensures { OnOk result (string_bytes out.new ≡ string_bytes out.old ++ routes_text timed.now 0 table.now.routes) }
+{
+    let master = timed.platform().master();
+    if timed.time(master).is_some() {
+        let name = timed.platform().nodes()[master as usize].name().as_str();
+        push_route(out, 0, 1, name)?;
+    }
+    Ok(())
+}
+
+/// Appends the line of the one slot, in which nothing moves.
+#[tactic(auto, using(crate::proofs::LonePlans::one_slot))]
+fn push_idle_slot(out: &mut String, timed: &Timed, table: &Table) -> Result<(), NoMemory>
+    requires { table.now ≡ lone_table timed.now }
+    ensures { OnOk result (string_bytes out.new ≡ string_bytes out.old ++ slots_text table.now.slots) }
+{
+    push_number(out, "slot", table.period)
+}
+
+/// The plan text of a platform in which no link is used.
 pub fn print_plan(alloc: Global, timed: &Timed, table: &Table) -> Result<String, NoMemory>
-    requires lone { IsLoneMaster timed.now.platform }
-    requires table { table.now ≡ lone_table timed.now }
+    requires { table.now ≡ lone_table timed.now }
     ensures { IfOk result (λ text. string_bytes text ≡ plan_text timed.now Series.Tasking table.now) }
 {
     timed.known();
@@ -51,9 +71,8 @@ pub fn print_plan(alloc: Global, timed: &Timed, table: &Table) -> Result<String,
     push_number(&mut out, "depth", u128::from(table.depth))?;
     let tasks = table.tasks * u128::from(timed.unit());
     push_rate(&mut out, Ratio::new(tasks, table.period))?;
-    let name = timed.platform().nodes()[0].name().as_str();
-    push_route(&mut out, 0, table.routes.as_slice()[0].count, name)?;
-    push_number(&mut out, "slot", table.slots.as_slice()[0].duration)?;
+    push_lone_route(&mut out, timed, table)?;
+    push_idle_slot(&mut out, timed, table)?;
     out.push_str("end\n")?;
     Ok(out)
 }

@@ -5,14 +5,14 @@ ghost use Rattle.steady_top.specs.Faults.{refusal_of};
 ghost use Rattle.steady_top.specs.Planned.{IsPlanned, IsPlanFault};
 
 use crate::fault::TopFault;
-use crate::lone::lone_master_table;
+use crate::lone::{lone_master_table, uses_links};
 use crate::plan_text::print_plan;
 use outside_io::{Files, ReadEnd, read_whole};
 use platform_file::{Kind, MOST_BYTES, read_platform, timed};
 use std::alloc::Global;
 
-/// The plan text of the platform in the named file. The steps that can refuse come in this order: the file, its text, the
-/// platform.
+/// The plan text of the platform in the named file. The steps that can refuse come in this order: the file, its text, its ticks,
+/// its links.
 pub fn plan<'a, F: Files>(
     alloc: Global,
     files: &mut F,
@@ -28,6 +28,9 @@ pub fn plan<'a, F: Files>(
     };
     let platform = read_platform(alloc, &bytes)?;
     let timed = timed(alloc, platform)?;
+    if uses_links(timed.platform()) {
+        return Err(TopFault::LinksNotYet);
+    }
     let table = lone_master_table(alloc, &timed)?;
     Ok(print_plan(alloc, &timed, &table)?)
 }

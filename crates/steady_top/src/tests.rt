@@ -3,12 +3,24 @@ mod platforms;
 use crate::status::Status;
 use crate::top::steady;
 use outside_io::{MemoryFiles, MemorySink};
-use platforms::{CUT_SHORT, LONE_MASTER, ONE_WORKER};
+use platforms::{
+    CUT_SHORT, FINE_TIMES, FRACTION, LONE_MASTER, ONE_WORKER, ONLY_BACK, OUT_OF_REACH,
+};
 use std::alloc::Global;
 use std::test::Fail;
 
 const LONE_PLAN: &str =
     "plan 1 tasking\nunit 1\nperiod 2\ntasks 1\ndepth 0\nrate 1/2\nroute 0 1 m\nslot 2\nend\n";
+
+const FRACTION_PLAN: &str =
+    "plan 1 tasking\nunit 2\nperiod 3\ntasks 1\ndepth 0\nrate 2/3\nroute 0 1 m\nslot 3\nend\n";
+
+const IDLE_PLAN: &str =
+    "plan 1 tasking\nunit 1\nperiod 1\ntasks 0\ndepth 0\nrate 0/1\nslot 1\nend\n";
+
+// 5/3 time units are 10 ticks of a sixth.
+const ONLY_BACK_PLAN: &str =
+    "plan 1 tasking\nunit 6\nperiod 10\ntasks 1\ndepth 0\nrate 3/5\nroute 0 1 m\nslot 10\nend\n";
 
 /// The words as the program is given them, parted by a bar.
 fn words_of(alloc: Global, line: &str) -> Result<Vec<String>, Fail> {
@@ -52,22 +64,125 @@ fn refuses_words(rt: HostRuntime) -> Result<(), Fail> {
 }
 
 #[test]
-fn answers_files(rt: HostRuntime) -> Result<(), Fail> {
+fn plans_where_no_link_is_used(rt: HostRuntime) -> Result<(), Fail> {
     let alloc = rt.alloc();
-    let form = "error: platform: form not built\n";
-    let not_toml = "error: platform: not TOML\n";
-    let cut_short = CUT_SHORT.as_bytes();
-    let lone = LONE_MASTER.as_bytes();
+    for (text, plan) in [
+        (LONE_MASTER, LONE_PLAN),
+        (FRACTION, FRACTION_PLAN),
+        (OUT_OF_REACH, IDLE_PLAN),
+        (ONLY_BACK, ONLY_BACK_PLAN),
+    ] {
+        let (ended, out) = answer(alloc, "plan|P", text.as_bytes(), &[], 4096, &[])?;
+        assert_eq!(rt; ended, Status::Done, "{text}");
+        assert_eq!(rt; out.as_str(), plan);
+    }
+    Ok(())
+}
+
+#[test]
+fn refuses_files(rt: HostRuntime) -> Result<(), Fail> {
+    let alloc = rt.alloc();
+    let no_links = "error: platform: links not built\n";
+    let overflow = "error: ticks overflow: lcm of 999997000002 and 999997\n";
     let cannot_read = "error: cannot read nofile\n";
     for (line, text, status, written) in [
-        ("plan|P", lone, Status::Done, LONE_PLAN),
-        ("plan|P", ONE_WORKER.as_bytes(), Status::Platform, form),
-        ("plan|P", cut_short, Status::Platform, not_toml),
-        ("plan|P", b"\xff".as_slice(), Status::Platform, not_toml),
-        ("plan|nofile", lone, Status::ReadFault, cannot_read),
+        ("plan|P", ONE_WORKER, Status::Platform, no_links),
+        ("plan|P", FINE_TIMES, Status::Overflow, overflow),
+        ("plan|nofile", LONE_MASTER, Status::ReadFault, cannot_read),
     ] {
-        let (ended, out) = answer(alloc, line, text, &[], 4096, &[])?;
+        let (ended, out) = answer(alloc, line, text.as_bytes(), &[], 4096, &[])?;
         assert_eq!(rt; ended, status, "{written}");
+        assert_eq!(rt; out.as_str(), written);
+    }
+    Ok(())
+}
+
+#[test]
+fn refuses_what_is_no_toml(rt: HostRuntime) -> Result<(), Fail> {
+    let alloc = rt.alloc();
+    for text in [CUT_SHORT.as_bytes(), b"\xff".as_slice()] {
+        let (ended, out) = answer(alloc, "plan|P", text, &[], 4096, &[])?;
+        assert_eq!(rt; ended, Status::Platform);
+        assert_eq!(rt; out.as_str(), "error: platform: not TOML\n");
+    }
+    Ok(())
+}
+
+#[test]
+fn names_what_is_wrong_with_a_platform(rt: HostRuntime) -> Result<(), Fail> {
+    let alloc = rt.alloc();
+    let link = "{from = \"m\", to = \"w\", cost = 3}";
+    for (old, new, written) in [
+        (
+            link,
+            "{from = \"m\", to = \"w\", cost = 3}, {from = \"m\", to = \"w\", cost = 3}",
+            "link 1 given twice",
+        ),
+        ("to = \"w\"", "to = \"m\"", "link 0 joins a node to itself"),
+        ("cost = 3", "cost = 0", "bad ratio at link 0.cost: zero"),
+        ("cost = 3", "cost = -3", "bad ratio at link 0.cost: shape"),
+        (
+            "cost = 3",
+            "cost = \"1/1000001\"",
+            "bad ratio at link 0.cost: too large",
+        ),
+        ("to = \"w\"", "to = \"x\"", "unknown name at link 0.to"),
+        (
+            "to = \"w\", cost = 3",
+            "to = \"x\", cost = 0",
+            "bad ratio at link 0.cost: zero",
+        ),
+        ("version = 1", "version = 2", "bad field top.version"),
+        ("time = 2", "time = true", "bad field node 1.time"),
+        (
+            "version = 1",
+            "version = 1\ntargets = [\"w\", \"x\"]",
+            "unknown name at target 1",
+        ),
+        (
+            "version = 1",
+            "version = 1\ntargets = [\"m\"]",
+            "target 0 is the master",
+        ),
+        (
+            "version = 1",
+            "version = 1\ntargets = [\"w\", \"w\"]",
+            "target 1 named twice",
+        ),
+        ("{name = \"m\"}", "{name = \"w\"}", "node 1 named twice"),
+        (
+            "{name = \"m\"}",
+            "{name = \"n\"}",
+            "unknown name at top.master",
+        ),
+    ] {
+        let text = ONE_WORKER.replace(alloc, old, new)?;
+        let (ended, out) = answer(alloc, "plan|P", text.as_bytes(), &[], 4096, &[])?;
+        assert_eq!(rt; ended, Status::Platform, "{written}");
+        assert_eq!(rt;
+            out.as_str(),
+            format!(in alloc; "error: platform: {written}\n")?.as_str()
+        );
+    }
+    Ok(())
+}
+
+#[test]
+fn counts_what_there_is_too_much_of(rt: HostRuntime) -> Result<(), Fail> {
+    let alloc = rt.alloc();
+    for (nodes, links, targets, written) in [
+        (33, 129, 9, "error: platform: too many nodes: 33\n"),
+        (1, 129, 9, "error: platform: too many links: 129\n"),
+        (1, 0, 9, "error: platform: too many targets: 9\n"),
+    ] {
+        let nodes = "{},".repeat(alloc, nodes)?;
+        let links = "{},".repeat(alloc, links)?;
+        let targets = "'t',".repeat(alloc, targets)?;
+        let text = format!(in alloc;
+            "version = 1\nmaster = 'm'\nnode = [{nodes}]\nlink = [{links}]\ntargets = [{targets}]"
+        )?;
+        let (ended, out) = answer(alloc, "plan|P", text.as_bytes(), &[], 4096, &[])?;
+        assert_eq!(rt; ended, Status::Platform, "{written}");
         assert_eq!(rt; out.as_str(), written);
     }
     Ok(())

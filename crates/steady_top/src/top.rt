@@ -5,7 +5,7 @@ ghost use Rattle.outside_io.specs.Faults.{Rose};
 ghost use Rattle.steady_top.specs.Faults.{refusal_of};
 ghost use Rattle.steady_top.specs.Refusals.{Refusal, status_of, usage, cannot_read, no_memory, error_line};
 ghost use Rattle.steady_top.specs.Outcomes.{command_of, outcome_of, prints, refuses};
-ghost use Rattle.steady_top.specs.Answers.{AreToldAs, IsAnswer, IsCause, IsPrinted, IsBestPrinted, IsRefused, IsPlatformRefused, IsCutShort, IsStatus, IsResponse, IsOneOf, Ends};
+ghost use Rattle.steady_top.specs.Answers.{AreToldAs, IsAnswer, IsCause, IsPrinted, IsBestPrinted, IsRefused, IsRefusedWith, IsCutShort, IsStatus, IsResponse, IsOneOf, Ends};
 
 use crate::fault::TopFault;
 use crate::planning::plan;
@@ -75,7 +75,8 @@ pub fn steady<F: Files, S: Sink>(
 
     // Each refusal comes with its cause, and its one error line was written.
     ensures usage { result ≡ Status.Usage → IsRefused (map string_bytes words.now) (F.state files.old) (F.state files.new) (S.state out.old) (S.state out.new) usage }
-    ensures platform { result ≡ Status.Platform → IsPlatformRefused (map string_bytes words.now) (F.state files.old) (F.state files.new) (S.state out.old) (S.state out.new) }
+    ensures platform { result ≡ Status.Platform → IsRefusedWith Status.Platform (map string_bytes words.now) (F.state files.old) (F.state files.new) (S.state out.old) (S.state out.new) }
+    ensures overflow { result ≡ Status.Overflow → IsRefusedWith Status.Overflow (map string_bytes words.now) (F.state files.old) (F.state files.new) (S.state out.old) (S.state out.new) }
     ensures read_fault { result ≡ Status.ReadFault → (name : List ℕ) × IsRefused (map string_bytes words.now) (F.state files.old) (F.state files.new) (S.state out.old) (S.state out.new) (cannot_read name) }
     ensures memory { result ≡ Status.NoMemory → IsRefused (map string_bytes words.now) (F.state files.old) (F.state files.new) (S.state out.old) (S.state out.new) no_memory }
     ensures write_fault { result ≡ Status.WriteFault → IsCutShort (map string_bytes words.now) (F.state files.old) (F.state files.new) (S.state out.old) (S.state out.new) }

@@ -1,21 +1,31 @@
-use Rattle.std.proofs.Common.{rules, ◌≡◌, ◌≤◌, ◌<◌, ◌^◌, ◌∙◌, [], ◌∷◌, Some, refl, sym, ap, subst}
+use Rattle.std.proofs.Common.{◌≡◌, ◌∙◌, Some, None, slice_index_or, sym}
 use Rattle.schedule_model.specs.declared.schedule.Series.TheVariants.{Tasking}
-use Rattle.schedule_model.specs.Operations.{time_of}
 use Rattle.steady_top.specs.declared.table.Table.{Table}
 use Rattle.steady_top.specs.LoneTables.{lone_table}
 use Rattle.steady_top.specs.Best.{IsBest}
-use Rattle.steady_top.proofs.LoneTimes.{lone_times, lone_time_lasts, lone_time_is_short, no_links, master_is_first}
-use Rattle.steady_top.proofs.LoneBest.{lone_best}
+use Rattle.steady_top.proofs.LoneBest.{busy_best, idle_best}
+use Rattle.steady_top.proofs.LonePlans.{idle, if_ok}
 use Rattle.steady_top.proofs.lone.lone_master_table.Goals as goal
 
-pub returns-clause-best : goal.returns-clause-best
-returns-clause-best c =
+pub returns-in-Some-clause-best : goal.returns-in-Some-clause-best
+returns-in-Some-clause-best c =
     let t = c.args.timed.now in
-    let alone : t.times ≡ Some c.in-Some.ticks ∷ [] = lone_times t c.known.ensures c.requires c.in-Some.ticks (c.time.ensures ∙ ap Some c.in-Some.is) in
-    let is_time : time_of t 0 ≡ c.in-Some.ticks = rw alone refl in
-    let some : 1 ≤ c.in-Some.ticks = rw is_time at (lone_time_lasts t c.known.ensures c.requires) in
-    let short : c.in-Some.ticks < 2 ^ 64 = rw is_time at (lone_time_is_short c.args.timed.now c.known.ensures c.requires) in
-    let table_is : record { period = c.from-2.result; tasks = 1; depth = 0; routes = c.push.new.self; slots = c.push-2.new.self } ≡ lone_table t = search rules in
-    subst (λ (table : Table). IsBest t Tasking table) (sym table_is)
-    (lone_best t c.in-Some.ticks alone (no_links t.platform c.requires) (master_is_first t.platform c.requires) some c.known.ensures.some_unit c.known.ensures short
-    (λ s valid. c.ports_have_time.ensures.computes t Tasking s 0 c.known.ensures valid))
+    let master = rw c.platform.ensures at c.master-master.ensures.value in
+    let is : slice_index_or t.times t.platform.master None ≡ Some c.in-Some.ticks = rw master at (c.time.ensures.index ∙ c.in-Some.is) in
+    if_ok (λ (table : Table). IsBest t Tasking table) c.busy_table.result c.busy_table.ensures.table
+    (rw master (busy_best t c.in-Some.ticks is (rw c.in-Some.is at c.time.ensures.lasts) c.known.ensures.some_unit c.requires c.known.ensures c.busy_table.ensures.short
+    (λ s valid. c.ports_have_time.ensures.computes t Tasking s t.platform.master c.known.ensures valid)))
+
+pub returns-in-None-clause-table : goal.returns-in-None-clause-table
+returns-in-None-clause-table c =
+    let t = c.args.timed.now in
+    let master = rw c.platform.ensures at c.master-master.ensures.value in
+    let is : slice_index_or t.times t.platform.master None ≡ None = rw master at (c.time.ensures.index ∙ c.in-None.is) in
+    if_ok (λ (table : Table). table ≡ lone_table t) c.idle_table.result c.idle_table.ensures (sym (idle t is))
+
+pub returns-in-None-clause-best : goal.returns-in-None-clause-best
+returns-in-None-clause-best c =
+    let t = c.args.timed.now in
+    let master = rw c.platform.ensures at c.master-master.ensures.value in
+    let is : slice_index_or t.times t.platform.master None ≡ None = rw master at (c.time.ensures.index ∙ c.in-None.is) in
+    if_ok (λ (table : Table). IsBest t Tasking table) c.idle_table.result c.idle_table.ensures (idle_best t c.requires is c.known.ensures.some_unit)

@@ -1,13 +1,10 @@
-use Rattle.std.proofs.Common.{◌≡◌, ◌∙◌, Ok, ap, sym, subst}
-use Rattle.platform_file.specs.Reading.{most_bytes, platform_of, timed_of}
-use Rattle.platform_file.specs.Ticks.{TimedView}
+use Rattle.std.proofs.Common.{◌∙◌, ap, sym}
+use Rattle.platform_file.specs.Reading.{most_bytes}
 use Rattle.schedule_model.specs.declared.schedule.Series.TheVariants.{Tasking}
-use Rattle.steady_top.specs.Best.{IsBest}
-use Rattle.steady_top.specs.LoneTables.{lone_table}
 use Rattle.steady_top.specs.PlanText.{plan_text}
 use Rattle.steady_top.specs.Outcomes.{prints}
-use Rattle.steady_top.proofs.Plans.{read_may_be, longer, longer_is_refused, whole_is_planned}
-use Rattle.std.specs.String.{string_bytes}
+use Rattle.steady_top.proofs.Plans.{read_may_be, longer, longer_is_refused, links_are_refused, table_is_planned, fault_is_planned, of_error}
+use Rattle.steady_top.specs.Faults.{refusal_of}
 use Rattle.steady_top.proofs.planning.plan.Goals as goal
 
 pub returns-in-Err-Longer : goal.returns-in-Err-Longer
@@ -16,23 +13,37 @@ returns-in-Err-Longer g c =
     let file = longer ((g.F.Files.state c.args.files.now).held c.args.name.now) most_bytes cause.file in
     record { bytes = file.0; file = file.1; outcome = longer_is_refused file.0 file.2 }
 
-pub returns : goal.returns
-returns g c =
-    let read : platform_of c.in-Ok.bytes.items ≡ Ok c.in_ok-platform.platform = rw c.deref.ensures.value at c.in_ok-platform.ensures.read in
-    let in_ticks : c.in_ok-timed.timed ≡ timed_of c.in_ok-platform.platform = c.in_ok-timed.ensures in
-    let is_plan : string_bytes c.in_ok-print_plan.field-0 ≡ plan_text (timed_of c.in_ok-platform.platform) Tasking c.in_ok-table.table =
-    subst (λ (t : TimedView). string_bytes c.in_ok-print_plan.field-0 ≡ plan_text t Tasking c.in_ok-table.table) in_ticks c.in_ok-print_plan.ensures in
-    let lone : c.in_ok-table.table ≡ lone_table (timed_of c.in_ok-platform.platform) =
-    subst (λ (t : TimedView). c.in_ok-table.table ≡ lone_table t) in_ticks c.in_ok-table.ensures.table in
+pub returns-in_err-platform : goal.returns-in_err-platform
+returns-in_err-platform g c =
+    let cause = rw c.deref.ensures.value at c.in_err-platform.ensures in
+    of_error _ c.from_residual.result c.from_residual.ensures.0 c.from_residual.ensures.1
+    (λ e is. fault_is_planned (g.F.Files.state c.args.files.now) _ c.args.name.now c.in-Ok.bytes.items (read_may_be _ _ c.in-Ok.ensures.file) c.in-Ok.ensures.within c.in_err-platform.field-0.0 (refusal_of e) cause is)
+
+pub returns-then-uses_links : goal.returns-then-uses_links
+returns-then-uses_links g c =
+    let read = rw c.deref.ensures.value at c.in_ok-platform.ensures in
+    let used = sym (rw c.platform.ensures at c.uses_links.ensures) ∙ c.if-uses_links.true in
     record {
       bytes = c.in-Ok.bytes.items;
       file = read_may_be _ _ c.in-Ok.ensures.file;
-      outcome = whole_is_planned c.in-Ok.bytes.items c.in_ok-platform.platform c.in-Ok.ensures.within read
-          ∙ ap prints (sym (is_plan ∙ ap (plan_text (timed_of c.in_ok-platform.platform) Tasking) lone));
+      outcome = links_are_refused c.in-Ok.bytes.items c.in_ok-platform.platform c.in_ok-timed.timed c.in-Ok.ensures.within read c.in_ok-timed.ensures.value used;
+    }
+
+pub returns : goal.returns
+returns g c =
+    let read = rw c.deref.ensures.value at c.in_ok-platform.ensures in
+    let unused = sym (rw c.platform.ensures at c.uses_links.ensures) ∙ c.if-uses_links.false in
+    let planned = table_is_planned c.in-Ok.bytes.items c.in_ok-platform.platform c.in_ok-timed.timed c.in-Ok.ensures.within read c.in_ok-timed.ensures.value unused in
+    record {
+      bytes = c.in-Ok.bytes.items;
+      file = read_may_be _ _ c.in-Ok.ensures.file;
+      outcome = planned ∙ ap prints (sym (c.in_ok-print_plan.ensures ∙ ap (plan_text c.in_ok-timed.timed Tasking) c.in_ok-table.ensures.table));
       calm = c.in-Ok.ensures.faults;
       platform = c.in_ok-platform.platform;
       read = read;
+      timed = c.in_ok-timed.timed;
+      in_ticks = c.in_ok-timed.ensures.value;
       table = c.in_ok-table.table;
-      best = subst (λ (t : TimedView). IsBest t Tasking c.in_ok-table.table) in_ticks c.in_ok-table.ensures.best;
-      is_plan = is_plan;
+      best = c.in_ok-table.ensures.best;
+      is_plan = c.in_ok-print_plan.ensures;
     }

@@ -1,4 +1,6 @@
-use Rattle.steady_top.proofs.Responses.{done, best, refused_usage, refused_platform, refused_read, refused_memory, cut_short, no_other, complete, exact, no_command}
+use Rattle.std.proofs.Common.{inl, inr, refl}
+use Rattle.steady_top.specs.declared.status.Status.TheVariants as status
+use Rattle.steady_top.proofs.Responses.{done, best, refused_usage, refused_reason, refused_read, refused_memory, cut_short, no_other, complete, exact, no_command}
 use Rattle.steady_top.proofs.top.steady.Goals as goal
 
 pub returns-clause-done : goal.returns-clause-done
@@ -11,7 +13,10 @@ pub returns-clause-usage : goal.returns-clause-usage
 returns-clause-usage g c = refused_usage _ _ _ _ _ _ c.respond.ensures
 
 pub returns-clause-platform : goal.returns-clause-platform
-returns-clause-platform g c = refused_platform _ _ _ _ _ _ c.respond.ensures
+returns-clause-platform g c = refused_reason _ _ _ _ _ _ c.respond.ensures status.Platform (inl refl) (λ e. cc) (λ e. cc)
+
+pub returns-clause-overflow : goal.returns-clause-overflow
+returns-clause-overflow g c = refused_reason _ _ _ _ _ _ c.respond.ensures status.Overflow (inr refl) (λ e. cc) (λ e. cc)
 
 pub returns-clause-read_fault : goal.returns-clause-read_fault
 returns-clause-read_fault g c = refused_read _ _ _ _ _ _ c.respond.ensures
