@@ -27,6 +27,10 @@ pub record PlatformView : Type 0 where
 abbrev pub is_master : PlatformView → ℕ → Bool
 is_master p node = nat_eq node p.master
 
+-- the number of the master, as the node from which routes begin
+abbrev pub master_of : PlatformView → ℕ
+master_of p = p.master
+
 -- a plan can use the link: what a link brings to the master is of no use
 abbrev pub is_used : PlatformView → LinkView → Bool
 is_used p link = not (is_master p link.to)

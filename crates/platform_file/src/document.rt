@@ -5,7 +5,7 @@ ghost use Rattle.std.specs.List.{list_any};
 ghost use Rattle.std.specs.BTreeMap.{keys};
 ghost use Rattle.toml.specs.Data.{get_member, as_str, as_table};
 ghost use Rattle.toml.specs.View.{view, items_view, table_view};
-ghost use Rattle.platform_file.specs.Documents.{text_at, integer_at, has_other_key, is_among, top_keys, node_keys, link_keys, all_of, items_of, optional_items};
+ghost use Rattle.platform_file.specs.Documents.{text_at, integer_at, has_other_key, all_of, items_of, optional_items};
 
 use std::alloc::{AllocError, Global};
 use toml::{Table, Value};

@@ -1,8 +1,8 @@
 //! Platforms.
 
-ghost use Rattle.std.specs.Prelude.{◌≡◌, ◌<◌, ◌↔◌, true, false, [], ◌∷◌, length, Some, IsNone, IfSome, IfOk, string_bytes};
+ghost use Rattle.std.specs.Prelude.{◌≡◌, ◌<◌, ◌↔◌, true, false, length, IsNone, IfSome, string_bytes};
 ghost use Rattle.std.specs.List.{list_all};
-ghost use Rattle.platform_file.specs.Platform.{is_name, is_name_byte, is_master, same_ends, IsPlatform};
+ghost use Rattle.platform_file.specs.Platform.{is_name, is_name_byte, is_master, master_of, same_ends, IsPlatform};
 
 use listed::Listed;
 use ratio_core::Ratio;
@@ -231,9 +231,10 @@ impl Platform {
         self.targets.as_slice()
     }
 
-    /// The number of the master, where routes begin.
+    /// The number of the master, as the node from which routes begin.
     pub fn master(&self) -> u32
-        ensures value { result ≡ self.now.master }
+        ensures value { result ≡ master_of self.now }
+        ensures is { is_master self.now result ≡ true }
         ensures exists { result < length self.now.nodes }
     {
         self.master

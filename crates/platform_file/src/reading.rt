@@ -1,11 +1,11 @@
 //! Reads a platform from a file's bytes.
 
-ghost use Rattle.std.specs.Prelude.{◌≡◌, ◌≢◌, ◌≤◌, ◌<◌, false, All, None, [], Some, Ok, IfOk, IfSome, MatchResult, length, map, option_map, bytes_eq, ok_or, nat_eq};
+ghost use Rattle.std.specs.Prelude.{◌≡◌, ◌≢◌, ◌≤◌, ◌<◌, false, All, [], Some, Ok, IfOk, IfSome, MatchResult, length, map, ok_or, nat_eq};
 ghost use Rattle.toml.specs.View.{view, table_view};
 ghost use Rattle.platform_file.specs.Platform.{same_ends, same_name, IsNode, IsLink, IsTarget};
 ghost use Rattle.ratio_core.specs.Texts.{HasSmallParts};
 ghost use Rattle.platform_file.specs.Documents.{document_of};
-ghost use Rattle.platform_file.specs.Reading.{IsFaultOf, platform_of, platform_of_document, each_of, node_in, name_in, time_in, span_of, whole_ratio, ratio_of_value, node_named, known_node, target_in, cost_in, joining, link_in, platform_of_sections};
+ghost use Rattle.platform_file.specs.Reading.{IsFaultOf, platform_of, each_of, node_in, name_in, time_in, span_of, whole_ratio, ratio_of_value, node_named, known_node, target_in, cost_in, joining, link_in, platform_of_sections};
 ghost use Rattle.platform_file.specs.Sections.{sections_view};
 ghost use Rattle.platform_file.specs.declared.fault.PlatformFault.TheVariants.{NotToml};
 ghost use Rattle.std.specs.List.{list_any, IsDistinct};

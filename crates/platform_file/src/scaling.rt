@@ -3,7 +3,7 @@
 ghost use Rattle.std.specs.Prelude.{◌≡◌, ◌≤◌, ◌^◌, All, Ok, Err, IfOk, IfErr, MatchResult, cond, map, flat_map, nat_le, option_map, option_to_list};
 ghost use Rattle.ratio_core.specs.Multiples.{lcm_of};
 ghost use Rattle.ratio_core.specs.Texts.{HasSmallParts};
-ghost use Rattle.platform_file.specs.Platform.{IsNode, IsLink};
+ghost use Rattle.platform_file.specs.Platform.{IsNode};
 ghost use Rattle.platform_file.specs.Ticks.{denominators_of, unit_from, ticks_of, timed_of, IsTimedFault, HasNoUnit};
 ghost use Rattle.platform_file.specs.declared.fault.TimedFault.TheVariants.{Unit};
 

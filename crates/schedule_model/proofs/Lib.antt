@@ -3,3 +3,13 @@ pub mod Durations
 pub mod Ports
 pub mod Evaluator
 pub mod Examples
+pub mod PortUse
+pub mod Stocks
+pub mod Moves
+pub mod Prefixes
+pub mod Tallied
+pub mod Checked
+pub mod Outcomes
+pub mod Ranges
+pub mod Least
+pub mod Verdicts

@@ -1,3 +1,5 @@
 pub mod Operations
 pub mod Validity
 pub mod Throughput
+pub mod Breaches
+pub mod Tallies

@@ -6,6 +6,7 @@ use Rattle.std.proofs.lemmas.List.Elements.{All-cons, All-nil}
 use Rattle.std.proofs.lemmas.Map.Keys.{IsDistinct-cons}
 use Rattle.std.proofs.Math.Nat.{div-le_self}
 use Rattle.ratio_core.specs.Fraction.{gcd_of}
+use Rattle.platform_file.specs.Platform.{master_of}
 use Rattle.platform_file.specs.Ticks.{TimedView}
 use Rattle.schedule_model.specs.declared.schedule.Series.TheVariants.{Tasking}
 use Rattle.steady_top.specs.LoneTables.{lone_route, idle_slot, busy_table, idle_table}
@@ -21,15 +22,15 @@ idle_is_slot ticks some = record { some = some; pieces = All-nil (IsPiece []); a
 smaller : (a b c : ℕ) → a ≤ c → a / b ≤ c
 smaller a b c h = let l = div-le_self a b in omega (arith, l)
 
-pub busy_fits : (t : TimedView) (time : ℕ) → slice_index_or t.times t.platform.master None ≡ Some time → 1 ≤ time → time < 2 ^ 64 → t.unit ≤ 2 ^ 40 →
-    Fits t Tasking (busy_table t.platform.master time)
+pub busy_fits : (t : TimedView) (time : ℕ) → slice_index_or t.times (master_of t.platform) None ≡ Some time → 1 ≤ time → time < 2 ^ 64 → t.unit ≤ 2 ^ 40 →
+    Fits t Tasking (busy_table (master_of t.platform) time)
 busy_fits t time is some short fine =
-    let itself : nat_eq t.platform.master t.platform.master ≡ true = grind (arith, nat_tests) in
+    let itself : nat_eq (master_of t.platform) (master_of t.platform) ≡ true = grind (arith, nat_tests) in
     record {
-      routes = All-cons (IsRoute t Tasking) (lone_route t.platform.master) [] (record {
+      routes = All-cons (IsRoute t Tasking) (lone_route (master_of t.platform)) [] (record {
         from_master = itself;
         walk = tt;
-        simple = IsDistinct-cons nat_eq t.platform.master [] tt none_distinct;
+        simple = IsDistinct-cons nat_eq (master_of t.platform) [] tt none_distinct;
         ending = (refl, rw is refl);
         some = omega arith;
         bounded = omega arith;

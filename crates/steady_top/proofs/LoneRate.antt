@@ -6,7 +6,7 @@ use Rattle.std.proofs.lemmas.Bool.Decides.{nat_tests}
 use Rattle.std.proofs.lemmas.List.Elements.{All-head, All-tail}
 use Rattle.std.proofs.lemmas.List.Sums.{sum_by-cons}
 use Rattle.std.proofs.Math.Nat.{mul-le-mul_left, div-add-mod}
-use Rattle.platform_file.specs.Platform.{is_master, is_used}
+use Rattle.platform_file.specs.Platform.{is_master, is_used, master_of}
 use Rattle.platform_file.specs.Ticks.{TimedView}
 use Rattle.schedule_model.specs.declared.schedule.Op.{Op}
 use Rattle.schedule_model.specs.declared.schedule.Op.TheVariants.{Send, Compute}
@@ -48,15 +48,15 @@ count_some p (op ∷ ops) (suc k) d h e = there _ _ _ (sum_by-cons (λ o. cond (
 
 module _ (t : TimedView) (unused : uses_links t.platform ≡ false) where
   -- every link enters the master
-  enters_master : (link : ℕ) → link < length t.platform.links → receiver_of t link ≡ t.platform.master
-  enters_master link h = eqb-true _ _ (of_not (nat_eq (receiver_of t link) t.platform.master) (fails_at (is_used t.platform) t.platform.links link no_link unused h))
+  enters_master : (link : ℕ) → link < length t.platform.links → receiver_of t link ≡ (master_of t.platform)
+  enters_master link h = eqb-true _ _ (of_not (nat_eq (receiver_of t link) (master_of t.platform)) (fails_at (is_used t.platform) t.platform.links link no_link unused h))
     where
       of_not : (b : Bool) → not b ≡ false → b ≡ true
       of_not true h = refl
       of_not false h = cc
 
   not_sent : (node : ℕ) → is_master t.platform node ≡ false → (op : Op) → IsInRange t Tasking op → sends_to t node op ≡ false
-  not_sent node away (Send link kind start) range = rw (enters_master link range.0) (turned node t.platform.master away)
+  not_sent node away (Send link kind start) range = rw (enters_master link range.0) (turned node (master_of t.platform) away)
     where
       turned : (a b : ℕ) → nat_eq a b ≡ false → nat_eq b a ≡ false
       turned a b h = grind (arith, nat_tests)
@@ -69,9 +69,9 @@ module _ (t : TimedView) (unused : uses_links t.platform ≡ false) where
         (λ k d h. rw (not_sent node away _ (valid.well_formed.in_range k d h)) refl)
 
     -- only the master computes
-    at_master : (k : ℕ) (d : Op) → k < length s.ops → (node start : ℕ) → get_or s.ops k d ≡ Compute node start → node ≡ t.platform.master
+    at_master : (k : ℕ) (d : Op) → k < length s.ops → (node start : ℕ) → get_or s.ops k d ≡ Compute node start → node ≡ (master_of t.platform)
     at_master k d h node start is =
-        elim (nat_eq node t.platform.master) as (λ b. nat_eq node t.platform.master ≡ b → node ≡ t.platform.master) [
+        elim (nat_eq node (master_of t.platform)) as (λ b. nat_eq node (master_of t.platform) ≡ b → node ≡ (master_of t.platform)) [
           | true ↦ λ e. eqb-true _ _ e
           | false ↦ λ away.
               let begun : (computes_at node (Compute node start) && has_started start (Compute node start)) ≡ true = itself node start in
@@ -87,38 +87,38 @@ module _ (t : TimedView) (unused : uses_links t.platform ≡ false) where
         too_many : (a b r : ℕ) → 1 ≤ b → a + b ≤ r → r ≡ 0 → ⊥
         too_many a b r one fewer none = omega arith
 
-    module _ (d : ℕ) (lasts : (start : ℕ) → IsInRange t Tasking (Compute t.platform.master start) → duration_of t s.ticks_per_unit (Compute t.platform.master start) ≡ d) where
+    module _ (d : ℕ) (lasts : (start : ℕ) → IsInRange t Tasking (Compute (master_of t.platform) start) → duration_of t s.ticks_per_unit (Compute (master_of t.platform) start) ≡ d) where
       -- what an operation takes of the master's processor
-      its_ticks : (op : Op) (range : IsInRange t Tasking op) → ((node start : ℕ) → op ≡ Compute node start → node ≡ t.platform.master) →
-          cond (computes_at t.platform.master op) (duration_of t s.ticks_per_unit op) 0 ≡ cond (is_compute op) d 0
+      its_ticks : (op : Op) (range : IsInRange t Tasking op) → ((node start : ℕ) → op ≡ Compute node start → node ≡ (master_of t.platform)) →
+          cond (computes_at (master_of t.platform) op) (duration_of t s.ticks_per_unit op) 0 ≡ cond (is_compute op) d 0
       its_ticks (Send link kind start) range at = refl
       its_ticks (Compute node start) range at =
-          let same : node ≡ t.platform.master = at node start refl in
+          let same : node ≡ (master_of t.platform) = at node start refl in
           rw same (computed start (rw same at range))
         where
-          computed : (start : ℕ) → IsInRange t Tasking (Compute t.platform.master start) →
-              cond (nat_eq t.platform.master t.platform.master) (duration_of t s.ticks_per_unit (Compute t.platform.master start)) 0 ≡ d
-          computed start range = let yes : nat_eq t.platform.master t.platform.master ≡ true = grind (arith, nat_tests) in rw (yes, lasts start range) refl
+          computed : (start : ℕ) → IsInRange t Tasking (Compute (master_of t.platform) start) →
+              cond (nat_eq (master_of t.platform) (master_of t.platform)) (duration_of t s.ticks_per_unit (Compute (master_of t.platform) start)) 0 ≡ d
+          computed start range = let yes : nat_eq (master_of t.platform) (master_of t.platform) ≡ true = grind (arith, nat_tests) in rw (yes, lasts start range) refl
 
       -- so the processor's ticks are the tasks times a task's ticks
-      ticks_of_tasks : (ops : List Op) → All (λ op. cond (computes_at t.platform.master op) (duration_of t s.ticks_per_unit op) 0 ≡ cond (is_compute op) d 0) ops →
-          count_by is_compute ops * d ≡ sum_by (λ op. cond (computes_at t.platform.master op) (duration_of t s.ticks_per_unit op) 0) ops
+      ticks_of_tasks : (ops : List Op) → All (λ op. cond (computes_at (master_of t.platform) op) (duration_of t s.ticks_per_unit op) 0 ≡ cond (is_compute op) d 0) ops →
+          count_by is_compute ops * d ≡ sum_by (λ op. cond (computes_at (master_of t.platform) op) (duration_of t s.ticks_per_unit op) 0) ops
       ticks_of_tasks [] all = omega arith
       ticks_of_tasks (op ∷ ops) all =
           step (is_compute op) _ _ _ _ _
-          (sum_by-cons (λ o. cond (is_compute o) 1 0) op ops) (sum_by-cons (λ o. cond (computes_at t.platform.master o) (duration_of t s.ticks_per_unit o) 0) op ops)
-          (All-head (λ o. cond (computes_at t.platform.master o) (duration_of t s.ticks_per_unit o) 0 ≡ cond (is_compute o) d 0) op ops all) (ticks_of_tasks ops (All-tail (λ o. cond (computes_at t.platform.master o) (duration_of t s.ticks_per_unit o) 0 ≡ cond (is_compute o) d 0) op ops all))
+          (sum_by-cons (λ o. cond (is_compute o) 1 0) op ops) (sum_by-cons (λ o. cond (computes_at (master_of t.platform) o) (duration_of t s.ticks_per_unit o) 0) op ops)
+          (All-head (λ o. cond (computes_at (master_of t.platform) o) (duration_of t s.ticks_per_unit o) 0 ≡ cond (is_compute o) d 0) op ops all) (ticks_of_tasks ops (All-tail (λ o. cond (computes_at (master_of t.platform) o) (duration_of t s.ticks_per_unit o) 0 ≡ cond (is_compute o) d 0) op ops all))
         where
           step : (b : Bool) (n m w a r : ℕ) → n ≡ cond b 1 0 + a → m ≡ w + r → w ≡ cond b d 0 → a * d ≡ r → n * d ≡ m
           step true n m w a r e f g h = let more : n ≡ 1 + a = e in rw more (omega (arith, f, g, h))
           step false n m w a r e f g h = let same : n ≡ a = omega (arith, e) in rw same (omega (arith, f, g, h))
 
-      pub master_ticks : count_by is_compute s.ops * d ≡ compute_ticks t s t.platform.master
+      pub master_ticks : count_by is_compute s.ops * d ≡ compute_ticks t s (master_of t.platform)
       master_ticks = ticks_of_tasks s.ops (λ k e h. its_ticks (get_or s.ops k e) (valid.well_formed.in_range k e h) (at_master k e h))
 
   -- one task in a task's ticks is an upper rate
-  pub busy_upper : (time : ℕ) → slice_index_or t.times t.platform.master None ≡ Some time → 1 ≤ time →
-      ((s : Schedule) → IsValid t Tasking s → compute_ticks t s t.platform.master ≤ s.length) → IsUpperRate t Tasking (1 * t.unit) time
+  pub busy_upper : (time : ℕ) → slice_index_or t.times (master_of t.platform) None ≡ Some time → 1 ≤ time →
+      ((s : Schedule) → IsValid t Tasking s → compute_ticks t s (master_of t.platform) ≤ s.length) → IsUpperRate t Tasking (1 * t.unit) time
   busy_upper time is some fit = record {
     some_time = some;
     bounds = λ s valid.
@@ -135,15 +135,15 @@ module _ (t : TimedView) (unused : uses_links t.platform ≡ false) where
           rw (← e) (omega (arith, more))
 
   -- without a time of the master nothing is computed
-  pub idle_upper : slice_index_or t.times t.platform.master None ≡ None → IsUpperRate t Tasking (0 * t.unit) 1
+  pub idle_upper : slice_index_or t.times (master_of t.platform) None ≡ None → IsUpperRate t Tasking (0 * t.unit) 1
   idle_upper is = record {
     some_time = omega arith;
     bounds = λ s valid. none _ s.ticks_per_unit _ (count_none is_compute s.ops (λ k d h. no_task s valid (get_or s.ops k d) (valid.well_formed.in_range k d h) (at_master s valid k d h)));
   }
     where
-      no_task : (s : Schedule) (valid : IsValid t Tasking s) (op : Op) → IsInRange t Tasking op → ((node start : ℕ) → op ≡ Compute node start → node ≡ t.platform.master) → is_compute op ≡ false
+      no_task : (s : Schedule) (valid : IsValid t Tasking s) (op : Op) → IsInRange t Tasking op → ((node start : ℕ) → op ≡ Compute node start → node ≡ (master_of t.platform)) → is_compute op ≡ false
       no_task s valid (Send link kind start) range at = refl
-      no_task s valid (Compute node start) range at = let same : node ≡ t.platform.master = at node start refl in let bad : false ≡ true = rw (same, is) at range in cc
+      no_task s valid (Compute node start) range at = let same : node ≡ (master_of t.platform) = at node start refl in let bad : false ≡ true = rw (same, is) at range in cc
 
       none : (x u K : ℕ) → x ≡ 0 → x * 1 * u ≤ 0 * t.unit * K
       none x u K e = rw e (omega arith)

@@ -1,7 +1,7 @@
 -- The table of a platform in which no link is used: the master computes what it can, and nothing moves (this project).
 use Rattle.std.specs.Prelude.{ℕ, Bool, [], ◌∷◌, Option, Some, None, slice_index_or}
 use Rattle.std.specs.List.{list_any}
-use Rattle.platform_file.specs.Platform.{PlatformView, is_used}
+use Rattle.platform_file.specs.Platform.{PlatformView, is_used, master_of}
 use Rattle.platform_file.specs.Ticks.{TimedView}
 use Rattle.steady_top.specs.declared.table.Table.{Table}
 use Rattle.steady_top.specs.declared.table.Route.{Route}
@@ -34,4 +34,4 @@ table_of_master master (Some ticks) = busy_table master ticks
 
 -- the table of the platform
 abbrev pub lone_table : TimedView → Table
-lone_table t = table_of_master t.platform.master (slice_index_or t.times t.platform.master None)
+lone_table t = table_of_master (master_of t.platform) (slice_index_or t.times (master_of t.platform) None)
