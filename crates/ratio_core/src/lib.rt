@@ -1,10 +1,12 @@
 //! Fractions of whole numbers, in lowest terms.
 #![tactic(auto)]
 
+mod comparing;
 mod ratio;
 #[cfg(test)]
 mod tests;
 mod text;
 
+pub use comparing::cmp_parts;
 pub use ratio::{Ratio, gcd, lcm_within, multiples_are_least};
 pub use text::{RatioFault, parse_ratio};

@@ -1,4 +1,5 @@
-use crate::{Ratio, RatioFault, gcd, lcm_within, parse_ratio};
+use crate::{Ratio, RatioFault, cmp_parts, gcd, lcm_within, multiples_are_least, parse_ratio};
+use std::cmp::Ordering;
 
 #[test]
 fn reduces(rt: HostRuntime) {
@@ -14,7 +15,25 @@ fn reduces(rt: HostRuntime) {
 }
 
 #[test]
+fn compares_fractions(rt: HostRuntime) {
+    let most = u128::MAX;
+    for (a, b, c, d, order) in [
+        (1, 2, 2, 4, Ordering::Equal),
+        (0, 5, 0, 1, Ordering::Equal),
+        (2, 3, 3, 4, Ordering::Less),
+        (7, 3, 9, 4, Ordering::Greater),
+        (0, 9, 1, most, Ordering::Less),
+        (most, most - 1, most - 1, most - 2, Ordering::Less),
+        (most - 1, most, most - 2, most - 1, Ordering::Greater),
+        (most, 3, most, 3, Ordering::Equal),
+    ] {
+        assert_eq!(rt; cmp_parts(a, b, c, d), order, "{a}/{b} and {c}/{d}");
+    }
+}
+
+#[test]
 fn finds_least_common_multiples(rt: HostRuntime) {
+    multiples_are_least();
     for (a, b, max, multiple) in [
         (4, 6, 12, Some(12)),
         (4, 6, 11, None),
