@@ -1,5 +1,5 @@
 -- Where no link is used no other node ever has a task, so that a schedule computes no more than the master does: the port lemma at its processor.
-use Rattle.std.proofs.Common.{◌≡◌, ℕ, zero, suc, ◌+◌, ◌*◌, ◌/◌, ◌%◌, ◌<◌, ◌≤◌, Bool, true, false, not, ◌&&◌, ◌||◌, cond, nat_eq, List, [], ◌∷◌, length, get_or, slice_index_or, All, Some, None, count_by, sum_by, refl, ap, ◌∙◌, arith}
+use Rattle.std.proofs.Common.{◌≡◌, ℕ, zero, suc, ◌+◌, ◌*◌, ◌/◌, ◌%◌, ◌<◌, ◌≤◌, Bool, true, false, not, ◌&&◌, ◌||◌, cond, nat_eq, List, [], ◌∷◌, length, get_or, slice_index_or, All, Some, None, count_by, sum_by, refl, ap, arith}
 use Rattle.std.specs.List.{list_any}
 use Rattle.std.proofs.lemmas.Bool.{eqb-true}
 use Rattle.std.proofs.lemmas.Bool.Decides.{nat_tests}
@@ -14,6 +14,7 @@ use Rattle.schedule_model.specs.declared.schedule.Series.TheVariants.{Tasking}
 use Rattle.schedule_model.specs.declared.schedule.Schedule.{Schedule}
 use Rattle.schedule_model.specs.Operations.{duration_of, receiver_of, no_link, sends_from, sends_to, computes_at, is_compute, has_started, has_ended}
 use Rattle.schedule_model.specs.Validity.{IsInRange, IsValid, started_tasks, received_tasks}
+use Rattle.schedule_model.proofs.PortUse.{count_none}
 use Rattle.schedule_model.specs.Throughput.{IsUpperRate, compute_ticks}
 use Rattle.steady_top.specs.LoneTables.{uses_links}
 
@@ -29,11 +30,6 @@ fails_at test (x ∷ xs) (suc k) d none h = fails_at test xs k d (right (test x)
     right : (a b : Bool) → (a || b) ≡ false → b ≡ false
     right false b h = h
     right true b h = cc
-
-count_none : (p : Op → Bool) (ops : List Op) → All (λ op. p op ≡ false) ops → count_by p ops ≡ 0
-count_none p [] h = refl
-count_none p (op ∷ ops) h =
-    sum_by-cons (λ o. cond (p o) 1 0) op ops ∙ rw (All-head (λ o. p o ≡ false) op ops h, count_none p ops (All-tail (λ o. p o ≡ false) op ops h)) refl
 
 count_some : (p : Op → Bool) (ops : List Op) (k : ℕ) (d : Op) → k < length ops → p (get_or ops k d) ≡ true → 1 ≤ count_by p ops
 count_some p [] k d h e = absurd (omega arith)

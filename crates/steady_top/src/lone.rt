@@ -61,6 +61,7 @@ fn idle_table(alloc: Global) -> Result<Table, NoMemory>
 /// One task in each period of a task's ticks.
 fn busy_table(alloc: Global, master: u32, ticks: u64) -> Result<Table, NoMemory>
     ensures table { IfOk result (λ table. table ≡ busy_table master ticks) }
+    // What the type of the ticks says, which the caller's proof doesn't see.
     ensures short { ticks < 2 ^ 64 }
 {
     let mut routes = Listed::new(alloc);

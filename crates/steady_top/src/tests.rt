@@ -108,61 +108,64 @@ fn refuses_what_is_no_toml(rt: HostRuntime) -> Result<(), Fail> {
     Ok(())
 }
 
+/// What the program answers to the platform of one worker, where one text in it is another.
+fn changed(alloc: Global, old: &str, new: &str) -> Result<(Status, String), Fail> {
+    let text = ONE_WORKER.replace(alloc, old, new)?;
+    answer(alloc, "plan|P", text.as_bytes(), &[], 4096, &[])
+}
+
 #[test]
-fn names_what_is_wrong_with_a_platform(rt: HostRuntime) -> Result<(), Fail> {
+fn names_what_is_wrong_with_a_link(rt: HostRuntime) -> Result<(), Fail> {
     let alloc = rt.alloc();
-    let link = "{from = \"m\", to = \"w\", cost = 3}";
+    let link = r#"{from = "m", to = "w", cost = 3}"#;
+    let twice = r#"{from = "m", to = "w", cost = 3}, {from = "m", to = "w", cost = 3}"#;
+    let long = r#"cost = "1/1000001""#;
+    let both = r#"to = "x", cost = 0"#;
     for (old, new, written) in [
+        (link, twice, "link 1 given twice"),
         (
-            link,
-            "{from = \"m\", to = \"w\", cost = 3}, {from = \"m\", to = \"w\", cost = 3}",
-            "link 1 given twice",
+            r#"to = "w""#,
+            r#"to = "m""#,
+            "link 0 joins a node to itself",
         ),
-        ("to = \"w\"", "to = \"m\"", "link 0 joins a node to itself"),
         ("cost = 3", "cost = 0", "bad ratio at link 0.cost: zero"),
         ("cost = 3", "cost = -3", "bad ratio at link 0.cost: shape"),
+        ("cost = 3", long, "bad ratio at link 0.cost: too large"),
+        (r#"to = "w""#, r#"to = "x""#, "unknown name at link 0.to"),
         (
-            "cost = 3",
-            "cost = \"1/1000001\"",
-            "bad ratio at link 0.cost: too large",
-        ),
-        ("to = \"w\"", "to = \"x\"", "unknown name at link 0.to"),
-        (
-            "to = \"w\", cost = 3",
-            "to = \"x\", cost = 0",
+            r#"to = "w", cost = 3"#,
+            both,
             "bad ratio at link 0.cost: zero",
         ),
+    ] {
+        let (ended, out) = changed(alloc, old, new)?;
+        assert_eq!(rt; ended, Status::Platform, "{written}");
+        let line = format!(in alloc; "error: platform: {written}\n")?;
+        assert_eq!(rt; out.as_str(), line.as_str());
+    }
+    Ok(())
+}
+
+#[test]
+fn names_what_is_wrong_elsewhere(rt: HostRuntime) -> Result<(), Fail> {
+    let alloc = rt.alloc();
+    let unknown = "version = 1\ntargets = [\"w\", \"x\"]";
+    let master = "version = 1\ntargets = [\"m\"]";
+    let twice = "version = 1\ntargets = [\"w\", \"w\"]";
+    let name = r#"{name = "m"}"#;
+    for (old, new, written) in [
         ("version = 1", "version = 2", "bad field top.version"),
         ("time = 2", "time = true", "bad field node 1.time"),
-        (
-            "version = 1",
-            "version = 1\ntargets = [\"w\", \"x\"]",
-            "unknown name at target 1",
-        ),
-        (
-            "version = 1",
-            "version = 1\ntargets = [\"m\"]",
-            "target 0 is the master",
-        ),
-        (
-            "version = 1",
-            "version = 1\ntargets = [\"w\", \"w\"]",
-            "target 1 named twice",
-        ),
-        ("{name = \"m\"}", "{name = \"w\"}", "node 1 named twice"),
-        (
-            "{name = \"m\"}",
-            "{name = \"n\"}",
-            "unknown name at top.master",
-        ),
+        ("version = 1", unknown, "unknown name at target 1"),
+        ("version = 1", master, "target 0 is the master"),
+        ("version = 1", twice, "target 1 named twice"),
+        (name, r#"{name = "w"}"#, "node 1 named twice"),
+        (name, r#"{name = "n"}"#, "unknown name at top.master"),
     ] {
-        let text = ONE_WORKER.replace(alloc, old, new)?;
-        let (ended, out) = answer(alloc, "plan|P", text.as_bytes(), &[], 4096, &[])?;
+        let (ended, out) = changed(alloc, old, new)?;
         assert_eq!(rt; ended, Status::Platform, "{written}");
-        assert_eq!(rt;
-            out.as_str(),
-            format!(in alloc; "error: platform: {written}\n")?.as_str()
-        );
+        let line = format!(in alloc; "error: platform: {written}\n")?;
+        assert_eq!(rt; out.as_str(), line.as_str());
     }
     Ok(())
 }
