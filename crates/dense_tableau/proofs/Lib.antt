@@ -1,0 +1,4 @@
+pub mod Quotients
+pub mod Entries
+pub mod Flat
+pub mod Written

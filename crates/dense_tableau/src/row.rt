@@ -1,0 +1,196 @@
+//! One row of a table in a pivot.
+
+ghost use Rattle.std.specs.Prelude.{◌≡◌, ◌≢◌, ℕ, ℤ, pos, ◌*◌, ◌^◌, ◌<◌, ◌≤◌, ◌-ℤ◌, ◌*ℤ◌, ◌<ℤ◌, nat_abs, int_div, true, false, cond, nat_eq, length, IsSome, None, is_none};
+ghost use Rattle.dense_tableau.specs.Flat.{entry};
+ghost use Rattle.linear_program.specs.Pivots.{first_below, row_divisor, row_overflow, changed_row};
+ghost use Rattle.linear_program.specs.Sizes.{fitting_combination};
+ghost use Rattle.ratio_core.specs.Fraction.{gcd_of};
+
+use linear_program::combined;
+use ratio_core::gcd;
+
+/// Two products below this number have a difference that fits.
+const HALF: u128 = 85070591730234615865843651857942052864;
+
+/// By how much a row and the pivot's row count in their combination.
+#[derive(Clone, Copy, Debug, PartialEq, Eq)]
+pub struct Multipliers {
+    /// The factor of the row, above 0.
+    pub own: i128,
+    /// The factor of the pivot's row.
+    pub pivot: i128,
+}
+
+/// The whole part of a cell over a divisor.
+fn quotient(cell: i128, divisor: u128) -> i128
+    requires some { 0 < divisor }
+    requires fits { divisor < 2 ^ 127 }
+    ensures { result ≡ int_div cell (pos divisor) }
+{
+    cell / (divisor as i128)
+}
+
+/// The two cells of the pivot's column over their greatest common divisor.
+fn multipliers_of(pivot_cell: i128, cell: i128) -> Multipliers
+    requires { pos 0 <ℤ pivot_cell }
+    ensures own { result.own ≡ int_div pivot_cell (pos (gcd_of (nat_abs pivot_cell) (nat_abs cell))) }
+    ensures pivot { result.pivot ≡ int_div cell (pos (gcd_of (nat_abs pivot_cell) (nat_abs cell))) }
+{
+    let divisor = gcd(pivot_cell.unsigned_abs(), cell.unsigned_abs());
+    Multipliers {
+        own: quotient(pivot_cell, divisor),
+        pivot: quotient(cell, divisor),
+    }
+}
+
+/// The greatest size of a row's cells.
+pub fn size_of(row: &[i128]) -> u128
+    ensures { (j : ℕ) → j < length row.now → nat_abs (entry row.now j) ≤ result }
+{
+    let mut size = 0;
+    for cell in row {
+        size = size.max(cell.unsigned_abs());
+    }
+    size
+}
+
+/// Whether no product of a factor and a cell of at most this size reaches half of what fits.
+fn stays_small(factor: i128, size: u128) -> bool
+    ensures { result ≡ true → nat_abs factor * size < 2 ^ 126 }
+{
+    match factor.unsigned_abs().checked_mul(size) {
+        Some(product) => product < HALF,
+        None => false,
+    }
+}
+
+/// Whether a product or the difference in the combination of two cells overflows.
+fn overflows_at(by: &Multipliers, cell: i128, pivot_cell: i128) -> bool
+    ensures { result ≡ is_none (fitting_combination by.now.own cell by.now.pivot pivot_cell) }
+{
+    combined(by.own, cell, by.pivot, pivot_cell).is_none()
+}
+
+/// The first column at which a row's combination with the pivot's row overflows.
+fn overflow_along(row: &[i128], pivot_row: &[i128], by: &Multipliers, column: u32) -> Option<u32>
+    requires same { length row.now ≡ length pivot_row.now }
+    requires narrow { length row.now < 2 ^ 32 }
+    ensures { result ≡ first_below (length row.now) (λ j. cond (nat_eq j column) false (is_none (fitting_combination by.now.own (entry row.now j) by.now.pivot (entry pivot_row.now j)))) }
+{
+    for j in 0..row.len() as u32 {
+        if j != column && overflows_at(by, row[j as usize], pivot_row[j as usize]) {
+            return Some(j);
+        }
+    }
+    None
+}
+
+/// The first column at which a row overflows in a pivot. The sizes of the rows mostly show that there is none.
+pub fn overflow_in_row(
+    row: &[i128],
+    pivot_row: &[i128],
+    pivot_size: u128,
+    column: u32,
+) -> Option<u32>
+    requires same { length row.now ≡ length pivot_row.now }
+    requires narrow { length row.now < 2 ^ 32 }
+    requires column { column < length row.now }
+    requires positive { pos 0 <ℤ entry pivot_row.now column }
+    requires pivot_size { (j : ℕ) → j < length pivot_row.now → nat_abs (entry pivot_row.now j) ≤ pivot_size }
+    ensures { result ≡ row_overflow (length row.now) (entry pivot_row.now) (entry row.now) column }
+{
+    let cell = row[column as usize];
+    if cell == 0 {
+        return None;
+    }
+    let by = multipliers_of(pivot_row[column as usize], cell);
+    if stays_small(by.own, size_of(row)) && stays_small(by.pivot, pivot_size) {
+        return None;
+    }
+    overflow_along(row, pivot_row, &by, column)
+}
+
+/// The combination of two cells, where it fits.
+fn combination(by: &Multipliers, cell: i128, pivot_cell: i128) -> i128
+    requires { IsSome (fitting_combination by.now.own cell by.now.pivot pivot_cell) }
+    ensures value { result ≡ by.now.own *ℤ cell -ℤ by.now.pivot *ℤ pivot_cell }
+    ensures small { nat_abs result < 2 ^ 127 }
+{
+    by.own * cell - by.pivot * pivot_cell
+}
+
+/// Makes a row its combination with the pivot's row, which is 0 in the pivot's column.
+fn combine(row: &mut [i128], pivot_row: &[i128], by: &Multipliers, column: u32)
+    requires same { length row.old ≡ length pivot_row.now }
+    requires fits { (j : ℕ) → j < length row.old → j ≢ column → IsSome (fitting_combination by.now.own (entry row.old j) by.now.pivot (entry pivot_row.now j)) }
+    ensures length { length row.new ≡ length row.old }
+    ensures cells { (j : ℕ) → j < length row.old → j ≢ column → entry row.new j ≡ by.now.own *ℤ entry row.old j -ℤ by.now.pivot *ℤ entry pivot_row.now j }
+    ensures zero { column < length row.old → entry row.new column ≡ pos 0 }
+    ensures small { (j : ℕ) → j < length row.old → nat_abs (entry row.new j) < 2 ^ 127 }
+{
+    for j in 0..row.len() {
+        row[j] = if j == column as usize {
+            0
+        } else {
+            combination(by, row[j], pivot_row[j])
+        };
+    }
+}
+
+/// The greatest common divisor of a row, 0 where all cells are 0. It is looked for no further once it is 1.
+fn divisor_of(row: &[i128]) -> u128
+    requires { (j : ℕ) → j < length row.now → nat_abs (entry row.now j) < 2 ^ 127 }
+    ensures value { result ≡ row_divisor (length row.now) (entry row.now) }
+    ensures fits { result < 2 ^ 127 }
+{
+    let mut divisor = 0;
+    for cell in row {
+        divisor = gcd(divisor, cell.unsigned_abs());
+        if divisor == 1 {
+            return 1;
+        }
+    }
+    divisor
+}
+
+/// Divides a row.
+fn divide(row: &mut [i128], divisor: u128)
+    requires some { 0 < divisor }
+    requires fits { divisor < 2 ^ 127 }
+    ensures length { length row.new ≡ length row.old }
+    ensures divided { (j : ℕ) → j < length row.old → entry row.new j ≡ int_div (entry row.old j) (pos divisor) }
+{
+    for cell in row.iter_mut() {
+        *cell = quotient(*cell, divisor);
+    }
+}
+
+/// Divides a row by the greatest common divisor of its cells.
+fn reduce(row: &mut [i128])
+    requires { (j : ℕ) → j < length row.old → nat_abs (entry row.old j) < 2 ^ 127 }
+    ensures length { length row.new ≡ length row.old }
+    ensures reduced { (j : ℕ) → j < length row.old → entry row.new j ≡ int_div (entry row.old j) (pos (row_divisor (length row.old) (entry row.old))) }
+{
+    let divisor = divisor_of(row);
+    if divisor > 1 {
+        divide(row, divisor);
+    }
+}
+
+/// Changes a row as a pivot does, where it doesn't overflow: a row that is 0 in the pivot's column stays.
+pub fn change_row(row: &mut [i128], pivot_row: &[i128], column: u32)
+    requires same { length row.old ≡ length pivot_row.now }
+    requires column { column < length row.old }
+    requires positive { pos 0 <ℤ entry pivot_row.now column }
+    requires fits { row_overflow (length row.old) (entry pivot_row.now) (entry row.old) column ≡ None }
+    ensures length { length row.new ≡ length row.old }
+    ensures changed { (j : ℕ) → j < length row.old → entry row.new j ≡ changed_row (length row.old) (entry pivot_row.now) (entry row.old) column j }
+{
+    let cell = row[column as usize];
+    if cell == 0 {
+        return;
+    }
+    let by = multipliers_of(pivot_row[column as usize], cell);
+    combine(row, pivot_row, &by, column);
+    reduce(row);
+}

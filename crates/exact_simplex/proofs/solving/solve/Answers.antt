@@ -1,0 +1,18 @@
+use Rattle.exact_simplex.proofs.Ends.{best_not_negative, ended_is_optimal}
+use Rattle.exact_simplex.proofs.solving.solve.Goals as goal
+
+pub optimum-requires : goal.optimum-requires
+optimum-requires g c =
+    let t = g.T.Tableau.table c.run.new.table in
+    let e = c.in_ok-run.ensures in
+    record {
+      canonical = e.canonical;
+      ended = e.gainless;
+      best = best_not_negative g.programme t c.requires.1.1.0 e.derived e.gainless;
+    }
+
+pub returns-clause-optimal : goal.returns-clause-optimal
+returns-clause-optimal g c =
+    let t = g.T.Tableau.table c.run.new.table in
+    let e = c.in_ok-run.ensures in
+    rw c.in_ok-optimum.ensures (ended_is_optimal g.programme t c.requires.1.1.0 e.canonical e.derived e.gainless)

@@ -1,0 +1,3 @@
+pub mod Bland
+pub mod Optima
+pub mod Answers

@@ -1,0 +1,11 @@
+//! The exact simplex: Bland's rule over whole-number tables.
+#![tactic(auto)]
+
+mod bland;
+mod fault;
+mod laws;
+mod solving;
+
+pub use fault::SolveFault;
+pub use laws::{bounded_runs_find_rows, choices_follow_bland};
+pub use solving::solve;

@@ -1,0 +1,13 @@
+pub mod Integers
+pub mod Sums
+pub mod WeakDuality
+pub mod Solutions
+pub mod Canonical
+pub mod Vectors
+pub mod Starts
+pub mod Pivots
+pub mod Searches
+pub mod Skips
+pub mod Overflows
+pub mod Changes
+pub mod Combinations

@@ -1,0 +1,8 @@
+pub mod Sums
+pub mod Programmes
+pub mod Duality
+pub mod Certificates
+pub mod Tables
+pub mod Starts
+pub mod Sizes
+pub mod Pivots

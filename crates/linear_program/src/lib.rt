@@ -1,0 +1,14 @@
+//! Linear programmes over whole numbers, their certificates, and tables that are pivoted.
+#![tactic(auto)]
+
+mod certificate;
+mod combine;
+mod laws;
+mod programme;
+mod tableau;
+
+pub use certificate::{Certificate, Optimum};
+pub use combine::combined;
+pub use laws::{pivots_keep_solutions, prices_bound_gains, runs_keep_tables};
+pub use programme::{Lp, Row};
+pub use tableau::{PivotFault, Tableau};
