@@ -5,5 +5,7 @@ mod dense;
 mod pivoting;
 mod row;
 mod starting;
+#[cfg(test)]
+mod tests;
 
 pub use dense::Dense;

@@ -2,9 +2,7 @@
 
 ghost use Rattle.std.specs.Prelude.{◌≡◌, ℕ, ℤ, pos, ◌+◌, ◌-◌, ◌<◌, ◌≤◌, ◌<ℤ◌, OnOk, OnErr, Err, Some, None, IsSome};
 ghost use Rattle.linear_program.specs.Tables.{TableauView, width, IsCanonical, IsDerived};
-ghost use Rattle.linear_program.specs.Programmes.{LpView, IsLp};
-ghost use Rattle.linear_program.specs.Duality.{IsBounded};
-ghost use Rattle.linear_program.specs.Starts.{start_table};
+ghost use Rattle.linear_program.specs.Starts.{IsBoundedStart};
 ghost use Rattle.exact_simplex.specs.Optima.{HasEnded};
 ghost use Rattle.exact_simplex.specs.Answers.{IsReached};
 ghost use Rattle.exact_simplex.specs.Bland.{entering_column, leaves_before, leaving_row, Run, bland_run};
@@ -70,17 +68,14 @@ fn leaving<T: Tableau>(table: &T, column: u32) -> Option<u32>
 /// Pivots by Bland's rule until no column would gain: the first such column enters, and the row of least ratio leaves, of equal ones the
 /// one of least basic column. So no table comes twice (Bland).
 pub fn run<T: Tableau>(table: &mut T, limit: u64) -> Result<(), SolveFault>
-    ghost programme: { LpView }
-    requires start { T.table table.old ≡ start_table programme }
-    requires programme { IsLp programme }
-    requires bounded { IsBounded programme }
-    ensures ended { OnOk result (bland_run limit (start_table programme) ≡ Run.ended (T.table table.new)) }
-    ensures overflow { (n i j : ℕ) → result ≡ Err (SolveFault.Overflow n i j) → bland_run limit (start_table programme) ≡ Run.overflow n i j (T.table table.new) }
-    ensures spent { (n : ℕ) → result ≡ Err (SolveFault.Spent n) → n ≡ limit × bland_run limit (start_table programme) ≡ Run.spent (T.table table.new) }
-    ensures reached { IsReached limit (start_table programme) (T.table table.new) }
+    requires { IsBoundedStart (T.table table.old) }
+    ensures ended { OnOk result (bland_run limit (T.table table.old) ≡ Run.ended (T.table table.new)) }
+    ensures overflow { (n i j : ℕ) → result ≡ Err (SolveFault.Overflow n i j) → bland_run limit (T.table table.old) ≡ Run.overflow n i j (T.table table.new) }
+    ensures spent { (n : ℕ) → result ≡ Err (SolveFault.Spent n) → n ≡ limit × bland_run limit (T.table table.old) ≡ Run.spent (T.table table.new) }
+    ensures reached { IsReached limit (T.table table.old) (T.table table.new) }
     ensures gainless { OnOk result (HasEnded (T.table table.new)) }
     ensures canonical { IsCanonical (T.table table.new) }
-    ensures derived { IsDerived (start_table programme) (T.table table.new) }
+    ensures derived { IsDerived (T.table table.old) (T.table table.new) }
 {
     let mut made = 0;
     while let Some(column) = entering(table) {

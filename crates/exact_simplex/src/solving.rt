@@ -3,8 +3,7 @@
 ghost use Rattle.std.specs.Prelude.{◌≡◌, ◌≢◌, ℕ, ℤ, pos, ◌+◌, ◌<◌, ◌≤◌, ◌^◌, ◌≤ℤ◌, nat_abs, All, OnOk, IfOk, Err, Some};
 ghost use Rattle.linear_program.specs.Tables.{TableauView, IsCanonical};
 ghost use Rattle.linear_program.specs.Programmes.{LpView, IsLp};
-ghost use Rattle.linear_program.specs.Duality.{IsBounded};
-ghost use Rattle.linear_program.specs.Starts.{start_table};
+ghost use Rattle.linear_program.specs.Starts.{start_table, IsBoundedStart};
 ghost use Rattle.exact_simplex.specs.Bland.{bland_run};
 ghost use Rattle.exact_simplex.specs.Optima.{row_of, value_of, price_of, best_of, first_terms, optimum_of, HasEnded, IsOptimal};
 ghost use Rattle.exact_simplex.specs.Answers.{answer_of, table_of, IsReached};
@@ -99,14 +98,11 @@ fn optimum<T: Tableau>(alloc: Global, table: &T) -> Result<Optimum, NoMemory>
 /// `Overflow` and `Spent` where the run comes to a pivot that overflows, or isn't ended after `limit` pivots; `NoMemory` where memory runs
 /// out. The table is then the one that the run had reached.
 pub fn solve<T: Tableau>(alloc: Global, table: &mut T, limit: u64) -> Result<Optimum, SolveFault>
-    ghost programme: { LpView }
-    requires start { T.table table.old ≡ start_table programme }
-    requires programme { IsLp programme }
-    requires bounded { IsBounded programme }
-    ensures exact { result ≢ Err SolveFault.NoMemory → answer_of limit (bland_run limit (start_table programme)) ≡ Some result }
-    ensures table { result ≢ Err SolveFault.NoMemory → T.table table.new ≡ table_of (bland_run limit (start_table programme)) }
-    ensures reached { IsReached limit (start_table programme) (T.table table.new) }
-    ensures optimal { IfOk result (IsOptimal programme) }
+    requires { IsBoundedStart (T.table table.old) }
+    ensures exact { result ≢ Err SolveFault.NoMemory → answer_of limit (bland_run limit (T.table table.old)) ≡ Some result }
+    ensures table { result ≢ Err SolveFault.NoMemory → T.table table.new ≡ table_of (bland_run limit (T.table table.old)) }
+    ensures reached { IsReached limit (T.table table.old) (T.table table.new) }
+    ensures optimal { (p : LpView) → IsLp p → T.table table.old ≡ start_table p → IfOk result (IsOptimal p) }
 {
     run(table, limit)?;
     Ok(optimum(alloc, table)?)

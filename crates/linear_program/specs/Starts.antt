@@ -1,6 +1,7 @@
 -- The table that a programme starts from: its rows, a slack for each, the objective, and the right-hand sides.
-use Rattle.std.specs.Prelude.{ℕ, ◌+◌, ℤ, pos, neg_ℤ, length, cond, nat_eq, nat_lt}
-use Rattle.linear_program.specs.Programmes.{LpView, cell_at, row_at, gain_at}
+use Rattle.std.specs.Prelude.{◌≡◌, ℕ, ◌+◌, ℤ, pos, neg_ℤ, length, cond, nat_eq, nat_lt}
+use Rattle.linear_program.specs.Programmes.{LpView, IsLp, cell_at, row_at, gain_at}
+use Rattle.linear_program.specs.Duality.{IsBounded}
 use Rattle.linear_program.specs.Tables.{TableauView}
 
 -- the start's cells in the programme's columns: its rows, and below them minus the gain
@@ -27,3 +28,10 @@ start_table p = record {
   cell = start_cell p;
   basic = λ i. cond (nat_lt (length p.rows) i) 0 (p.columns + i);
 }
+
+-- the table is the start of a bounded programme
+pub record IsBoundedStart (t : TableauView) : Type 0 where
+  pub programme : LpView
+  pub lp : IsLp programme
+  pub bounded : IsBounded programme
+  pub start : t ≡ start_table programme

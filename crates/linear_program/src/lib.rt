@@ -6,6 +6,8 @@ mod combine;
 mod laws;
 mod programme;
 mod tableau;
+#[cfg(test)]
+mod tests;
 
 pub use certificate::{Certificate, Optimum};
 pub use combine::combined;

@@ -12,10 +12,10 @@ left_over limit made h k = omega arith
 pub loop-column-init : goal.loop-column-init
 loop-column-init g c = record {
   within = omega arith;
-  reached = rw c.requires.1.0 (let e : c.args.limit - 0 ≡ c.args.limit = omega arith in ap (λ n. run_from n 0 (start_table g.programme)) e);
-  after = rw c.requires.1.0 refl;
-  canonical = rw c.requires.1.0 (start_canonical g.programme c.requires.1.1.0);
-  derived = rw c.requires.1.0 (start_derived g.programme);
+  reached = let e : c.args.limit - 0 ≡ c.args.limit = omega arith in ap (λ n. run_from n 0 (g.T.Tableau.table c.args.table.now)) e;
+  after = refl;
+  canonical = rw c.requires.start (start_canonical c.requires.programme c.requires.lp);
+  derived = rw c.requires.start (start_derived c.requires.programme);
 }
 
 pub returns-then-made-limit-clause-spent : goal.returns-then-made-limit-clause-spent
@@ -37,7 +37,7 @@ pub unwrap-row-requires : goal.unwrap-row-requires
 unwrap-row-requires g c =
     let t = g.T.Tableau.table c.loop-column.table in
     let inv = c.loop-column.invariant in
-    rw c.leaving.ensures (leaving_some g.programme t c.in-Some.column c.requires.1.1.1 inv.canonical inv.derived (sym c.in-Some.ensures))
+    rw c.leaving.ensures (leaving_some c.requires.programme t c.in-Some.column c.requires.bounded inv.canonical (rw c.requires.start at inv.derived) (sym c.in-Some.ensures))
 
 -- what the pass knows of its pivot
 pub pivot-requires-clause-row : goal.pivot-requires-clause-row
@@ -63,16 +63,16 @@ loop-column-preserved g c =
     let enters : entering_column t ≡ Some c.in-Some.column = sym c.in-Some.ensures in
     let leaves : leaving_row t c.in-Some.column ≡ Some c.unwrap-row.result = sym c.leaving.ensures ∙ c.unwrap-row.ensures in
     let pivots : pivoted t c.unwrap-row.result c.in-Some.column ≡ Pivoted.table u = c.in-Ok.ensures.ok in
-    let both = step_kept g.programme t u c.in-Some.column c.unwrap-row.result inv.canonical inv.derived enters leaves pivots in
+    let both = step_kept c.requires.programme t u c.in-Some.column c.unwrap-row.result inv.canonical (rw c.requires.start at inv.derived) enters leaves pivots in
     let left = left_over c.args.limit c.loop-column.made inv.within c.if-made-limit.false in
     record {
       within = let a = inv.within in let b = c.if-made-limit.false in omega arith;
       reached =
           sym (run_next (c.args.limit - (c.loop-column.made + 1)) c.loop-column.made c.in-Some.column c.unwrap-row.result t u enters leaves pivots)
           ∙ ap (λ k. run_from k c.loop-column.made t) (sym left) ∙ inv.reached;
-      after = rw add-one (after_step c.loop-column.made c.in-Some.column c.unwrap-row.result (start_table g.programme) t u inv.after enters leaves pivots);
+      after = rw add-one (after_step c.loop-column.made c.in-Some.column c.unwrap-row.result (g.T.Tableau.table c.args.table.now) t u inv.after enters leaves pivots);
       canonical = both.0;
-      derived = both.1;
+      derived = rw c.requires.start both.1;
     }
 
 pub returns-in-Err-Overflow-clause-overflow : goal.returns-in-Err-Overflow-clause-overflow

@@ -1,3 +1,6 @@
+use Rattle.std.proofs.Common.{sym, ◌∙◌}
+use Rattle.linear_program.specs.Tables.{IsDerived}
+use Rattle.linear_program.specs.Starts.{start_table}
 use Rattle.exact_simplex.proofs.Ends.{best_not_negative, ended_is_optimal}
 use Rattle.exact_simplex.proofs.solving.solve.Goals as goal
 
@@ -8,11 +11,11 @@ optimum-requires g c =
     record {
       canonical = e.canonical;
       ended = e.gainless;
-      best = best_not_negative g.programme t c.requires.1.1.0 e.derived e.gainless;
+      best = best_not_negative c.requires.programme t c.requires.lp (rw c.requires.start at e.derived) e.gainless;
     }
 
 pub returns-clause-optimal : goal.returns-clause-optimal
-returns-clause-optimal g c =
+returns-clause-optimal g c p lp start =
     let t = g.T.Tableau.table c.run.new.table in
     let e = c.in_ok-run.ensures in
-    rw c.in_ok-optimum.ensures (ended_is_optimal g.programme t c.requires.1.1.0 e.canonical e.derived e.gainless)
+    rw c.in_ok-optimum.ensures (ended_is_optimal p t lp e.canonical (rw start at e.derived) e.gainless)
