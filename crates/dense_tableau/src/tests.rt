@@ -33,7 +33,10 @@ fn shown(rt: &impl Abort, table: &Dense, cells: &[[i128; 6]; 3], basics: &[u32; 
     assert!(rt; table.rows() == 3 && table.columns() == 6);
     for row in 0..3u32 {
         for column in 0..6u32 {
-            assert_eq!(rt; table.cell(row, column), cells[row as usize][column as usize]);
+            assert_eq!(rt;
+                table.cell(row, column),
+                cells[row as usize][column as usize]
+            );
         }
         assert_eq!(rt; table.basic(row), basics[row as usize]);
     }
@@ -45,13 +48,28 @@ fn pivots(rt: HostRuntime) -> Result<(), Fail> {
     let lp = two_rows(alloc, 2, 2)?;
     let mut table = Dense::start(alloc, &lp)?;
     table.known();
-    shown(&rt, &table, &[[2, 1, 1, 0, 0, 1], [2, 2, 0, 1, 0, 1], [-1, -1, 0, 0, 1, 0]], &[2, 3, 4]);
+    shown(
+        &rt,
+        &table,
+        &[[2, 1, 1, 0, 0, 1], [2, 2, 0, 1, 0, 1], [-1, -1, 0, 0, 1, 0]],
+        &[2, 3, 4],
+    );
     assert!(rt; table.rows() == 3 && table.columns() == 6 && table.cell(0, 0) == 2);
     assert_eq!(rt; table.pivot(0, 0), Ok(()));
-    shown(&rt, &table, &[[2, 1, 1, 0, 0, 1], [0, 1, -1, 1, 0, 0], [0, -1, 1, 0, 2, 1]], &[0, 3, 4]);
+    shown(
+        &rt,
+        &table,
+        &[[2, 1, 1, 0, 0, 1], [0, 1, -1, 1, 0, 0], [0, -1, 1, 0, 2, 1]],
+        &[0, 3, 4],
+    );
     assert!(rt; table.rows() == 3 && table.columns() == 6 && table.cell(1, 1) == 1);
     assert_eq!(rt; table.pivot(1, 1), Ok(()));
-    shown(&rt, &table, &[[2, 0, 2, -1, 0, 1], [0, 1, -1, 1, 0, 0], [0, 0, 0, 1, 2, 1]], &[0, 1, 4]);
+    shown(
+        &rt,
+        &table,
+        &[[2, 0, 2, -1, 0, 1], [0, 1, -1, 1, 0, 0], [0, 0, 0, 1, 2, 1]],
+        &[0, 1, 4],
+    );
     Ok(())
 }
 
@@ -62,7 +80,19 @@ fn leaves_the_table_where_a_pivot_overflows(rt: HostRuntime) -> Result<(), Fail>
     let lp = two_rows(alloc, a, a - 1)?;
     let mut table = Dense::start(alloc, &lp)?;
     assert!(rt; table.rows() == 3 && table.columns() == 6 && table.cell(0, 0) > 0);
-    assert_eq!(rt; table.pivot(0, 0), Err(PivotFault::Overflow { row: 1, column: 1 }));
-    shown(&rt, &table, &[[a, 1, 1, 0, 0, 1], [a - 1, a, 0, 1, 0, 1], [-1, -1, 0, 0, 1, 0]], &[2, 3, 4]);
+    assert_eq!(rt;
+        table.pivot(0, 0),
+        Err(PivotFault::Overflow { row: 1, column: 1 })
+    );
+    shown(
+        &rt,
+        &table,
+        &[
+            [a, 1, 1, 0, 0, 1],
+            [a - 1, a, 0, 1, 0, 1],
+            [-1, -1, 0, 0, 1, 0],
+        ],
+        &[2, 3, 4],
+    );
     Ok(())
 }

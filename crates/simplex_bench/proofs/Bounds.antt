@@ -23,6 +23,7 @@ one_row_bounded = record {
   where
     signs : All (λ price. pos 0 ≤ℤ price) (pos 1 ∷ [])
     signs = search rules
+
     covers : (j : ℕ) → j < 1 → (pos 1 *ℤ gain_at one_row j) ≤ℤ priced_column one_row.rows (pos 1 ∷ []) j
     covers zero l = omega (arith, ints)
     covers (suc j) l = absurd (omega arith)
@@ -49,6 +50,7 @@ long_rows_bounded = record {
   where
     signs : All (λ price. pos 0 ≤ℤ price) (pos 1 ∷ (pos 0 ∷ []))
     signs = search rules
+
     covers : (j : ℕ) → j < 2 → (pos 1 *ℤ gain_at long_rows j) ≤ℤ priced_column long_rows.rows (pos 1 ∷ (pos 0 ∷ [])) j
     covers zero l = omega (arith, ints)
     covers (suc zero) l = omega (arith, ints)

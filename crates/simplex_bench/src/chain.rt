@@ -29,7 +29,12 @@ fn cost_of(worker: u32) -> i128
 }
 
 /// Appends a row of these cells.
-fn push_row(alloc: Global, rows: &mut Listed<Row>, cells: &[(u32, i128)], rhs: i128) -> Result<(), NoMemory>
+fn push_row(
+    alloc: Global,
+    rows: &mut Listed<Row>,
+    cells: &[(u32, i128)],
+    rhs: i128,
+) -> Result<(), NoMemory>
     ensures { OnOk result (rows.new ≡ rows.old ++ record { cells = cells.now; rhs = rhs } ∷ []) }
 {
     let mut listed = Listed::new(alloc);
@@ -40,7 +45,12 @@ fn push_row(alloc: Global, rows: &mut Listed<Row>, cells: &[(u32, i128)], rhs: i
 }
 
 /// Appends the row of a worker's time: what it computes in a tick takes at most the tick.
-fn push_time(alloc: Global, rows: &mut Listed<Row>, workers: u32, worker: u32) -> Result<(), NoMemory>
+fn push_time(
+    alloc: Global,
+    rows: &mut Listed<Row>,
+    workers: u32,
+    worker: u32,
+) -> Result<(), NoMemory>
     requires few { workers ≤ 1000 }
     requires next { worker ≡ length rows.old }
     requires left { worker < workers }
@@ -53,7 +63,13 @@ fn push_time(alloc: Global, rows: &mut Listed<Row>, workers: u32, worker: u32) -
 }
 
 /// Appends a row behind those of the times.
-fn push_behind(alloc: Global, rows: &mut Listed<Row>, workers: u32, cells: &[(u32, i128)], rhs: i128) -> Result<(), NoMemory>
+fn push_behind(
+    alloc: Global,
+    rows: &mut Listed<Row>,
+    workers: u32,
+    cells: &[(u32, i128)],
+    rhs: i128,
+) -> Result<(), NoMemory>
     requires behind { workers ≤ length rows.old }
     requires chain { IsChain workers rows.old }
     requires row { IsRow (2 * workers) (record { cells = cells.now; rhs = rhs }) }
@@ -73,12 +89,24 @@ fn push_ports(alloc: Global, rows: &mut Listed<Row>, workers: u32) -> Result<(),
     ensures length { OnOk result (length rows.new ≡ length rows.old + 2 * workers + 2) }
 {
     for worker in 0..workers {
-        push_behind(alloc, rows, workers, &[(workers + worker, cost_of(worker))], 1)?;
+        push_behind(
+            alloc,
+            rows,
+            workers,
+            &[(workers + worker, cost_of(worker))],
+            1,
+        )?;
     }
     push_behind(alloc, rows, workers, &[], 1)?;
     push_behind(alloc, rows, workers, &[], 1)?;
     for worker in 0..workers {
-        push_behind(alloc, rows, workers, &[(workers + worker, cost_of(worker))], 1)?;
+        push_behind(
+            alloc,
+            rows,
+            workers,
+            &[(workers + worker, cost_of(worker))],
+            1,
+        )?;
     }
     Ok(())
 }
@@ -94,7 +122,13 @@ fn push_supply(alloc: Global, rows: &mut Listed<Row>, workers: u32) -> Result<()
     for worker in 0..workers {
         let flow = workers + worker;
         if worker + 1 < workers {
-            push_behind(alloc, rows, workers, &[(worker, 1), (flow, -1), (flow + 1, 1)], 0)?;
+            push_behind(
+                alloc,
+                rows,
+                workers,
+                &[(worker, 1), (flow, -1), (flow + 1, 1)],
+                0,
+            )?;
         } else {
             push_behind(alloc, rows, workers, &[(worker, 1), (flow, -1)], 0)?;
         }

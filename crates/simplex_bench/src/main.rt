@@ -38,7 +38,10 @@ fn solved(alloc: Global, lp: &Lp, limit: u64) -> Result<Optimum, SolveFault>
 fn rate_of(optimum: &Optimum) -> Ratio {
     let certificate = &optimum.certificate;
     certificate.known();
-    Ratio::new(certificate.best().unsigned_abs(), certificate.scale().unsigned_abs())
+    Ratio::new(
+        certificate.best().unsigned_abs(),
+        certificate.scale().unsigned_abs(),
+    )
 }
 
 /// The best rate of a chain, solved as often as said; nothing where it isn't solved at all.
