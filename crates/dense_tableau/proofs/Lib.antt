@@ -1,4 +1,5 @@
 pub mod Quotients
 pub mod Entries
 pub mod Flat
+pub mod Parts
 pub mod Written
