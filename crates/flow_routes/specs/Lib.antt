@@ -1,0 +1,4 @@
+pub mod Flows
+pub mod Routes
+pub mod Walks
+pub mod Rounds
