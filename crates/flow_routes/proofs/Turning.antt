@@ -78,6 +78,7 @@ distinct_from_index (x ∷ xs) h = (
   where
     never : (i : ℕ) → zero ≡ suc i → ⊥
     never i e = omega arith
+
     less : (i j : ℕ) → suc i ≡ suc j → i ≡ j
     less i j e = omega arith
 
@@ -98,10 +99,13 @@ turned_simple master links amounts node path w =
   where
     which : (i : ℕ) → i < suc (length path) → (i < length path) ⊎ (i ≡ length path)
     which i l = elim (cases_lt i (length path)) [ inl h ↦ inl h | inr h ↦ inr (omega arith) ]
+
     at : (i : ℕ) → i < length path → get_or (back_nodes links node path) i 0 ≡ node_on links path i
     at i l = back_node_at links node path master i w.leads l
+
     last : (i : ℕ) → i ≡ length path → get_or (back_nodes links node path) i 0 ≡ master
     last i e = ap (λ k. get_or (back_nodes links node path) k 0) e ∙ back_node_last links node path master w.leads
+
     apart : (i j : ℕ) → (i < length path) ⊎ (i ≡ length path) → (j < length path) ⊎ (j ≡ length path) → get_or (back_nodes links node path) i 0 ≡ get_or (back_nodes links node path) j 0 → i ≡ j
     apart i j (inl l) (inl m) e = w.differ i j l m (sym (at i l) ∙ e ∙ at j m)
     apart i j (inl l) (inr m) e = absurd (w.no_master i l (sym (at i l) ∙ e ∙ last j m))

@@ -4,6 +4,8 @@
 mod flow;
 mod round;
 mod serving;
+#[cfg(test)]
+mod tests;
 mod walk;
 
 pub use flow::{Flow, Route};

@@ -19,7 +19,14 @@ pub struct Served {
 }
 
 /// Walks back from the node: takes a route's count from its links and answers the route, or cancels a cycle.
-pub fn round(alloc: Global, links: &[(u32, u32)], amounts: &mut [u128], master: u32, served: Served, marked: &mut [bool]) -> Result<Option<Route>, NoMemory>
+pub fn round(
+    alloc: Global,
+    links: &[(u32, u32)],
+    amounts: &mut [u128],
+    master: u32,
+    served: Served,
+    marked: &mut [bool],
+) -> Result<Option<Route>, NoMemory>
     requires lengths { length amounts.old ≡ length links.now }
     requires few { length links.now < 2 ^ 32 }
     requires exist { LinksExist links.now (length marked.old) }

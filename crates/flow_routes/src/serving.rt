@@ -35,7 +35,15 @@ pub fn routes(alloc: Global, flow: &Flow, kind: u32) -> Result<Listed<Route>, No
             demand: flow.demands.as_slice()[node as usize],
             kind,
         };
-        serve(alloc, flow.links.as_slice(), amounts.as_mut_slice(), flow.master, served, marked.as_mut_slice(), &mut routes)?;
+        serve(
+            alloc,
+            flow.links.as_slice(),
+            amounts.as_mut_slice(),
+            flow.master,
+            served,
+            marked.as_mut_slice(),
+            &mut routes,
+        )?;
     }
     Ok(routes)
 }
@@ -50,7 +58,15 @@ fn copied(alloc: Global, amounts: &[u128]) -> Result<Vec<u128>, NoMemory>
 }
 
 /// Appends the routes of a node.
-fn serve(alloc: Global, links: &[(u32, u32)], amounts: &mut [u128], master: u32, served: Served, marked: &mut [bool], routes: &mut Listed<Route>) -> Result<(), NoMemory>
+fn serve(
+    alloc: Global,
+    links: &[(u32, u32)],
+    amounts: &mut [u128],
+    master: u32,
+    served: Served,
+    marked: &mut [bool],
+    routes: &mut Listed<Route>,
+) -> Result<(), NoMemory>
     requires lengths { length amounts.old ≡ length links.now }
     requires few { length links.now < 2 ^ 32 }
     requires exist { LinksExist links.now (length marked.old) }

@@ -9,7 +9,14 @@ use std::alloc::Global;
 
 /// Walks backward from the node, each time over the first link with amount left, until it comes to the master or to a node that is
 /// on the walk already; answers the links and where it ended. The marks are those of no node.
-pub fn walk_back(alloc: Global, links: &[(u32, u32)], amounts: &[u128], master: u32, node: u32, marked: &mut [bool]) -> Result<(Listed<u32>, u32), NoMemory>
+pub fn walk_back(
+    alloc: Global,
+    links: &[(u32, u32)],
+    amounts: &[u128],
+    master: u32,
+    node: u32,
+    marked: &mut [bool],
+) -> Result<(Listed<u32>, u32), NoMemory>
     requires lengths { length amounts.now ≡ length links.now }
     requires few { length links.now < 2 ^ 32 }
     requires exist { LinksExist links.now (length marked.old) }

@@ -7,7 +7,7 @@ use Rattle.schedule_model.specs.declared.schedule.Series.TheVariants.{Tasking}
 use Rattle.schedule_model.specs.Validity.{completed}
 use Rattle.schedule_model.specs.Throughput.{IsUpperRate}
 use Rattle.steady_top.specs.declared.table.Table.{Table}
-use Rattle.steady_top.specs.declared.table.Route.{Route}
+use Rattle.flow_routes.specs.declared.flow.Route.{Route}
 use Rattle.steady_top.specs.LoneTables.{lone_route, idle_slot, lone_table}
 use Rattle.steady_top.specs.Lanes.{lanes_of}
 use Rattle.steady_top.specs.TableSchedules.{table_schedule}

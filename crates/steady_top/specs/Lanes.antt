@@ -1,6 +1,6 @@
 -- The lanes of a table: each hop of each route (this project).
 use Rattle.std.specs.Prelude.{ℕ, ◌+◌, List, [], ◌∷◌, ◌++◌, slice_index_or}
-use Rattle.steady_top.specs.declared.table.Route.{Route}
+use Rattle.flow_routes.specs.declared.flow.Route.{Route}
 
 -- a lane: one hop of one route, with what each batch moves over it
 pub record LaneAt : Type 0 where

@@ -4,7 +4,7 @@ use Rattle.std.specs.List.{list_any}
 use Rattle.platform_file.specs.Platform.{PlatformView, is_used, master_of}
 use Rattle.platform_file.specs.Ticks.{TimedView}
 use Rattle.steady_top.specs.declared.table.Table.{Table}
-use Rattle.steady_top.specs.declared.table.Route.{Route}
+use Rattle.flow_routes.specs.declared.flow.Route.{Route}
 use Rattle.steady_top.specs.declared.table.Slot.{Slot}
 
 -- some link can be of use to a plan

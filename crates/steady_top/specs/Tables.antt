@@ -9,7 +9,7 @@ use Rattle.schedule_model.specs.declared.schedule.Series.{Series}
 use Rattle.schedule_model.specs.declared.schedule.Series.TheVariants.{Tasking, Scatter}
 use Rattle.schedule_model.specs.Operations.{sender_of, receiver_of}
 use Rattle.steady_top.specs.declared.table.Table.{Table}
-use Rattle.steady_top.specs.declared.table.Route.{Route}
+use Rattle.flow_routes.specs.declared.flow.Route.{Route}
 use Rattle.steady_top.specs.declared.table.Slot.{Slot}
 use Rattle.steady_top.specs.declared.table.Piece.{Piece}
 use Rattle.steady_top.specs.Lanes.{LaneAt, lanes_of, lane_at}

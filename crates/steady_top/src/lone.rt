@@ -6,7 +6,8 @@ ghost use Rattle.schedule_model.specs.declared.schedule.Series.{Series};
 ghost use Rattle.steady_top.specs.Best.{IsBest};
 ghost use Rattle.steady_top.specs.LoneTables.{uses_links, idle_slot, idle_table, busy_table, lone_table};
 
-use crate::table::{Route, Slot, Table};
+use crate::table::{Slot, Table};
+use flow_routes::Route;
 use listed::{Listed, NoMemory};
 use platform_file::{Link, Platform, Timed};
 use schedule_model::ports_have_time;

@@ -1,19 +1,7 @@
 //! Periodic tables.
 
+use flow_routes::Route;
 use listed::Listed;
-
-/// A walk from the master that carries tasks or messages in each period.
-#[derive(Drop)]
-pub struct Route {
-    /// The links, from the master on; none where the master keeps its own tasks.
-    pub links: Listed<u32>,
-    /// The node at the end.
-    pub end: u32,
-    /// How many tasks or messages go this way in a period, at least 1.
-    pub count: u128,
-    /// For Scatter the number of the target, for Tasking 0.
-    pub kind: u32,
-}
 
 /// How many tasks or messages of a lane a slot carries. A lane is one hop of one route; lanes are numbered route by route and
 /// hop by hop.
