@@ -3,3 +3,4 @@ pub mod Validity
 pub mod Throughput
 pub mod Breaches
 pub mod Tallies
+pub mod Texts

@@ -1,5 +1,8 @@
 //! Schedules.
 
+ghost use Rattle.std.specs.Prelude.{◌≡◌};
+ghost use Rattle.schedule_model.specs.Texts.{series_text};
+
 use listed::Listed;
 
 /// What is run again and again: independent tasks from the master, or messages from it, one to each target.
@@ -9,6 +12,18 @@ pub enum Series {
     Tasking,
     /// Messages, of which each target wants those of its own kind.
     Scatter,
+}
+
+impl Series {
+    /// The word that names the series in texts.
+    pub fn word(self) -> &'static str
+        ensures { result.now ≡ series_text self }
+    {
+        match self {
+            Series::Tasking => "tasking",
+            Series::Scatter => "scatter",
+        }
+    }
 }
 
 /// An operation with the tick at which it starts. It lasts what its platform says.

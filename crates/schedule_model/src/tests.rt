@@ -50,6 +50,8 @@ fn breach(index: u64, rule: Rule) -> Result<u64, Breach> {
 #[test]
 fn checks_schedules_of_one_worker(rt: HostRuntime) -> Result<(), Fail> {
     ports_have_time();
+    assert_eq!(rt; Series::Tasking.word(), "tasking");
+    assert_eq!(rt; Series::Scatter.word(), "scatter");
     let alloc = rt.alloc();
     let timed = platform(alloc, ONE_WORKER)?;
     let most = u128::MAX;

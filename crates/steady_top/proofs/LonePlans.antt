@@ -5,7 +5,8 @@ use Rattle.platform_file.specs.Platform.{master_of}
 use Rattle.platform_file.specs.Ticks.{TimedView}
 use Rattle.steady_top.specs.declared.table.Table.{Table}
 use Rattle.steady_top.specs.LoneTables.{idle_slot, table_of_master, busy_table, idle_table, lone_table}
-use Rattle.steady_top.specs.PlanText.{line, slots_text}
+use Rattle.steady_top.specs.PlanText.{slots_text}
+use Rattle.text_lines.specs.Lines.{line}
 
 -- the line of an idle slot
 slot_line : (ticks : ℕ) → slots_text (idle_slot ticks ∷ []) ≡ line (codes "slot" ++ (codes " " ++ decimal ticks))

@@ -4,21 +4,13 @@ use Rattle.ratio_core.specs.Fraction.{Fraction, reduced}
 use Rattle.platform_file.specs.Platform.{NodeView}
 use Rattle.platform_file.specs.Ticks.{TimedView}
 use Rattle.schedule_model.specs.declared.schedule.Series.{Series}
-use Rattle.schedule_model.specs.declared.schedule.Series.TheVariants.{Tasking, Scatter}
+use Rattle.schedule_model.specs.Texts.{series_text}
+use Rattle.text_lines.specs.Lines.{line}
 use Rattle.steady_top.specs.declared.table.Table.{Table}
 use Rattle.flow_routes.specs.declared.flow.Route.{Route}
 use Rattle.steady_top.specs.declared.table.Slot.{Slot}
 use Rattle.steady_top.specs.declared.table.Piece.{Piece}
 use Rattle.steady_top.specs.Tables.{nodes_on}
-
--- a line ends with a line feed
-abbrev pub line : List ℕ → List ℕ
-line text = text ++ (10 ∷ [])
-
--- the word of a series
-abbrev pub series_text : Series → List ℕ
-series_text Tasking = codes "tasking"
-series_text Scatter = codes "scatter"
 
 -- a fraction's parts round a slash
 abbrev pub ratio_text : Fraction → List ℕ

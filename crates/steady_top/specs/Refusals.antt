@@ -12,7 +12,7 @@ use Rattle.ratio_core.specs.declared.text.RatioFault.{RatioFault}
 use Rattle.ratio_core.specs.declared.text.RatioFault.TheVariants as ratio
 use Rattle.steady_top.specs.declared.status.Status.{Status}
 use Rattle.steady_top.specs.declared.status.Status.TheVariants as status
-use Rattle.steady_top.specs.PlanText.{line}
+use Rattle.text_lines.specs.Lines.{line}
 
 -- why what was read is refused, with what the error line names
 pub data Reason : Type 0 where

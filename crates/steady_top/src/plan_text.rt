@@ -3,7 +3,8 @@
 ghost use Rattle.std.specs.Prelude.{◌≡◌, ◌++◌, IfOk, OnOk, codes, decimal, string_bytes};
 ghost use Rattle.schedule_model.specs.declared.schedule.Series.{Series};
 ghost use Rattle.steady_top.specs.LoneTables.{lone_table};
-ghost use Rattle.steady_top.specs.PlanText.{line, ratio_text, routes_text, slots_text, plan_text};
+ghost use Rattle.steady_top.specs.PlanText.{ratio_text, routes_text, slots_text, plan_text};
+ghost use Rattle.text_lines.specs.Lines.{line};
 
 use crate::table::Table;
 use listed::NoMemory;

@@ -1,0 +1,12 @@
+//! Lines of text, and numbers as they are printed.
+#![tactic(auto)]
+
+mod laws;
+mod lines;
+mod numbers;
+#[cfg(test)]
+mod tests;
+
+pub use laws::numbers_are_read_as_printed;
+pub use lines::{behind, first_line};
+pub use numbers::{integer_of, natural_of};

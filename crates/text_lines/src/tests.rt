@@ -1,0 +1,39 @@
+use crate::{behind, first_line, integer_of, natural_of, numbers_are_read_as_printed};
+
+#[test]
+fn reads_lines(rt: HostRuntime) {
+    assert_eq!(rt;
+        first_line(b"a b\nc\n"),
+        Some((b"a b".as_slice(), b"c\n".as_slice()))
+    );
+    assert_eq!(rt; first_line(b"\n"), Some((b"".as_slice(), b"".as_slice())));
+    assert_eq!(rt; first_line(b"a"), None);
+    assert_eq!(rt; behind(b"rows ", b"rows 7"), Some(b"7".as_slice()));
+    assert_eq!(rt; behind(b"rows ", b"row"), None);
+}
+
+#[test]
+fn reads_numbers(rt: HostRuntime) {
+    let most = 170141183460469231731687303715884105727;
+    for (text, number) in [
+        ("0", Some(0)),
+        ("10", Some(10)),
+        ("-7", Some(-7)),
+        ("170141183460469231731687303715884105727", Some(i128::MAX)),
+        ("-170141183460469231731687303715884105727", Some(-i128::MAX)),
+        ("170141183460469231731687303715884105728", None),
+        ("999999999999999999999999999999999999999999", None),
+        ("", None),
+        ("-", None),
+        ("-0", None),
+        ("00", None),
+        ("07", None),
+        ("+7", None),
+        ("7 ", None),
+    ] {
+        assert_eq!(rt; integer_of(text.as_bytes(), most), number, "{text}");
+    }
+    assert_eq!(rt; natural_of(b"7", 7), Some(7));
+    assert_eq!(rt; natural_of(b"8", 7), None);
+    numbers_are_read_as_printed();
+}
