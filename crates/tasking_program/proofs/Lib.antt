@@ -1,0 +1,6 @@
+pub mod Listings
+pub mod Weights
+pub mod Feasible
+pub mod Bounded
+pub mod Rates
+pub mod Cells

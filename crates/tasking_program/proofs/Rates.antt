@@ -1,0 +1,95 @@
+-- What the counts of a schedule gain, and why prices bound every rate.
+use Rattle.std.proofs.Common.{◌≡◌, ℕ, ◌+◌, ◌*◌, ◌/◌, ◌<◌, ◌≤◌, Bool, true, false, cond, List, [], ◌∷◌, length, get_or, slice_index_or, All, count_by, Option, Some, None, IsSome, ℤ, pos, ◌+ℤ◌, ◌*ℤ◌, ◌≤ℤ◌, refl, sym, ap, ◌∙◌, arith}
+use Rattle.std.specs.Option.{is_some}
+use Rattle.std.proofs.Math.IntN.{*ℤ_comm}
+use Rattle.std.proofs.Math.Nat.{mul_assoc, mul_comm, mul-mul-mul_comm, mul-le-mul_left}
+use Rattle.std.proofs.lemmas.Int.{ints}
+use Rattle.std.proofs.lemmas.List.{get_or-map}
+use Rattle.std.proofs.lemmas.List.Sums.{sum_by-cons}
+use Rattle.std.proofs.lemmas.List.Elements.{All-head, All-tail}
+use Rattle.linear_program.specs.Programmes.{gain_value, gain_at}
+use Rattle.linear_program.specs.Duality.{priced_sides, IsDualFeasible}
+use Rattle.linear_program.proofs.Integers.{times_keeps_order}
+use Rattle.linear_program.proofs.Sums.{same_sum}
+use Rattle.linear_program.proofs.WeakDuality.{weak_duality}
+use Rattle.platform_file.specs.Ticks.{TimedView, IsTimed}
+use Rattle.schedule_model.specs.declared.schedule.Op.{Op}
+use Rattle.schedule_model.specs.declared.schedule.Op.TheVariants.{Send, Compute}
+use Rattle.schedule_model.specs.declared.schedule.Series.TheVariants.{Tasking}
+use Rattle.schedule_model.specs.declared.schedule.Schedule.{Schedule}
+use Rattle.schedule_model.specs.Operations.{is_compute}
+use Rattle.schedule_model.specs.Validity.{IsInRange, IsValid, completed}
+use Rattle.schedule_model.specs.Throughput.{IsUpperRate}
+use Rattle.schedule_model.proofs.Durations.{whole_quotient}
+use Rattle.tasking_program.specs.declared.columns.Column.TheVariants.{Computes, Flows}
+use Rattle.tasking_program.specs.Columns.{computes, carries, columns_of, column_at}
+use Rattle.tasking_program.specs.Rows.{where_true}
+use Rattle.tasking_program.specs.Programme.{gain_of, tasking_programme}
+use Rattle.tasking_program.specs.Counts.{counts_of}
+use Rattle.tasking_program.proofs.Listings.{sum_over}
+use Rattle.tasking_program.proofs.Weights.{weight, counts_weigh}
+use Rattle.tasking_program.proofs.Feasible.{there, feasible}
+
+-- every computation gains a task
+computations_gain : (t : TimedView) (ops : List Op) → All (IsInRange t Tasking) ops → sum_over (weight t gain_of) ops ≡ pos (count_by is_compute ops)
+computations_gain t [] range = refl
+computations_gain t (op ∷ ops) range =
+    let rest = computations_gain t ops (All-tail (IsInRange t Tasking) op ops range) in
+    let here = one op (All-head (IsInRange t Tasking) op ops range) in
+    omega (arith, ints, rest, here, sum_by-cons (λ o. cond (is_compute o) 1 0) op ops)
+  where
+    found : (time : Option ℕ) → IsSome time → where_true (is_some time) (pos 1) ≡ pos 1
+    found (Some ticks) some = refl
+    found None some = let bad : false ≡ true = some in cc
+
+    free : (b : Bool) → where_true b (pos 0) ≡ pos 0
+    free true = refl
+    free false = refl
+
+    one : (op : Op) → IsInRange t Tasking op → weight t gain_of op ≡ pos (cond (is_compute op) 1 0)
+    one (Send link kind start) range = free (carries t link)
+    one (Compute node start) range = found (slice_index_or t.times node None) range
+
+-- the counts gain what the schedule completes
+pub gain_of_counts : (t : TimedView) (s : Schedule) → IsTimed t → IsValid t Tasking s →
+    gain_value (tasking_programme t) (counts_of t s) ≡ pos (completed t Tasking s * (s.ticks_per_unit / t.unit))
+gain_of_counts t s timed valid =
+    same_sum (length (columns_of t)) _ (λ j. gain_of (column_at (columns_of t) j) *ℤ pos (counts_of t s j))
+    (λ j l. ap (λ z. z *ℤ pos (counts_of t s j)) (get_or-map gain_of (columns_of t) j (Computes 0) (pos 0) l))
+    ∙ counts_weigh t gain_of s (there t s timed valid)
+    ∙ ap (λ z. pos (s.ticks_per_unit / t.unit) *ℤ z) (computations_gain t s.ops valid.well_formed.in_range)
+    ∙ product (s.ticks_per_unit / t.unit) (completed t Tasking s)
+  where
+    product : (k n : ℕ) → pos k *ℤ pos n ≡ pos (n * k)
+    product k n = omega (arith, ints)
+
+pub bounds_rates : (t : TimedView) (prices : List ℤ) (scale best : ℕ) → IsTimed t → IsDualFeasible (tasking_programme t) prices (pos scale) →
+    priced_sides (tasking_programme t).rows prices ≤ℤ pos best → IsUpperRate t Tasking (best * t.unit) scale
+bounds_rates t prices scale best timed dual sides = record {
+  some_time = some dual.some_scale;
+  bounds = λ s valid.
+      let weak = weak_duality (tasking_programme t) (counts_of t s) s.length prices (pos scale) (feasible t s timed valid) dual in
+      let gains = rw (gain_of_counts t s timed valid) at weak in
+      let priced = times_keeps_order (pos s.length) (priced_sides (tasking_programme t).rows prices) (pos best) (omega (arith, ints)) sides in
+      in_units _ _ _ _ _ _ (below (priced_sides (tasking_programme t).rows prices) _ _ _ _ gains priced) (whole_quotient t.unit s.ticks_per_unit valid.well_formed.whole_unit);
+}
+  where
+    some : pos 1 ≤ℤ pos scale → 1 ≤ scale
+    some h = omega (arith, ints)
+
+    below : (y : ℤ) (scale n length best : ℕ) → (pos scale *ℤ pos n) ≤ℤ (y *ℤ pos length) → (pos length *ℤ y) ≤ℤ (pos length *ℤ pos best) → scale * n ≤ length * best
+    below y scale n length best h k = omega (arith, ints, h, k, *ℤ_comm y (pos length))
+
+    in_units : (scale done quotient length best unit : ℕ) {u : ℕ} → scale * (done * quotient) ≤ length * best → unit * quotient ≡ u → done * scale * u ≤ best * unit * length
+    in_units scale done quotient length best unit h e =
+        rw (
+          ← e,
+          mul_comm done scale,
+          mul-mul-mul_comm scale done unit quotient,
+          mul_comm scale unit,
+          mul_assoc unit scale (done * quotient),
+          mul_comm best unit,
+          mul_assoc unit best length,
+          mul_comm best length,
+        )
+        (mul-le-mul_left unit h)

@@ -1,0 +1,56 @@
+//! The programme.
+
+ghost use Rattle.std.specs.Prelude.{◌≡◌, ◌<◌, ◌^◌, All, length, map, nat_abs, IfOk};
+ghost use Rattle.tasking_program.specs.Programme.{gain_of, tasking_programme};
+
+use crate::columns::{Column, columns};
+use crate::rows::{Limit, push_rows};
+use linear_program::Lp;
+use listed::{Listed, NoMemory};
+use platform_file::Timed;
+use std::alloc::Global;
+
+/// What a unit of a column gains: a task where it is computed.
+fn gain_of(column: Column) -> i128
+    ensures { result ≡ gain_of column }
+{
+    match column {
+        Column::Computes(_) => 1,
+        Column::Flows(_) => 0,
+    }
+}
+
+/// What each column gains.
+fn gains(alloc: Global, columns: &[Column]) -> Result<Listed<i128>, NoMemory>
+    ensures value { IfOk result (λ gain. gain ≡ map gain_of columns.now) }
+    ensures small { IfOk result (All (λ g. nat_abs g < 2 ^ 127)) }
+{
+    let mut gain = Listed::new(alloc);
+    for column in columns {
+        gain.push(gain_of(*column))?;
+    }
+    Ok(gain)
+}
+
+/// The programme whose greatest gain is the best rate of tasking, in tasks per tick.
+///
+/// Its columns are a rate for each node that computes and a flow for each link that doesn't enter the master, in tasks per tick. Its rows
+/// say, for each node, that its processor, its send port and its receive port are in use for at most one tick in a tick, and that it
+/// computes and sends at most as many tasks as it receives, unless it is the master. Source: Beaumont, Legrand and Robert's steady-state
+/// equations, with "at most" in place of "equals".
+///
+/// Takes one pass over the columns for each row.
+pub fn tasking_lp(alloc: Global, timed: &Timed) -> Result<Lp, NoMemory>
+    ensures { IfOk result (λ lp. lp ≡ tasking_programme timed.now) }
+{
+    timed.platform().known();
+    let columns = columns(alloc, timed)?;
+    let columns = columns.as_slice();
+    let mut rows = Listed::new(alloc);
+    push_rows(alloc, &mut rows, timed, columns, Limit::Compute)?;
+    push_rows(alloc, &mut rows, timed, columns, Limit::Send)?;
+    push_rows(alloc, &mut rows, timed, columns, Limit::Receive)?;
+    push_rows(alloc, &mut rows, timed, columns, Limit::Supply)?;
+    let gain = gains(alloc, columns)?;
+    Ok(Lp::new(columns.len() as u32, rows, gain))
+}
