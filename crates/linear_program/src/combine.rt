@@ -4,7 +4,7 @@ ghost use Rattle.std.specs.Prelude.{◌≡◌, ℤ, ◌-ℤ◌, ◌*ℤ◌};
 ghost use Rattle.linear_program.specs.Sizes.{fitting_combination, fitting};
 
 /// The product, where its size is at most 2^127 - 1.
-fn fitting_product(a: i128, b: i128) -> Option<i128>
+pub fn fitting_product(a: i128, b: i128) -> Option<i128>
     ensures { result ≡ fitting (a *ℤ b) }
 {
     match a.checked_mul(b) {

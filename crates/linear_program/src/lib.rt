@@ -10,7 +10,7 @@ mod tableau;
 mod tests;
 
 pub use certificate::{Certificate, Optimum};
-pub use combine::combined;
+pub use combine::{combined, fitting_product};
 pub use laws::{pivots_keep_solutions, prices_bound_gains, runs_keep_tables};
 pub use programme::{Lp, Row};
 pub use tableau::{PivotFault, Tableau};
