@@ -4,5 +4,5 @@ pub mod LoneFits
 pub mod LoneBest
 pub mod LonePlans
 pub mod Responses
-pub mod Plans
+pub mod Works
 pub mod Examples

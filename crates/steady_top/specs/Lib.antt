@@ -10,3 +10,4 @@ pub mod Answers
 pub mod Exits
 pub mod Faults
 pub mod Planned
+pub mod Words

@@ -1,5 +1,6 @@
 -- What the program answers, for given words and contents of files (this project).
-use Rattle.std.specs.Prelude.{ℕ, ◌+◌, Bool, false, not, ◌&&◌, cond, List, [], ◌∷◌, length, Option, Some, None, Result, Ok, Err, nat_eq, nat_lt, bytes_eq, codes}
+use Rattle.std.specs.Prelude.{ℕ, ◌+◌, Bool, false, ◌||◌, cond, List, [], ◌∷◌, ◌++◌, length, Option, Some, None, Result, Ok, Err, nat_eq, nat_lt, bytes_eq, codes, decimal}
+use Rattle.std.specs.Fmt.{signed_decimal}
 use Rattle.platform_file.specs.declared.fault.PlatformFault.{PlatformFault}
 use Rattle.platform_file.specs.declared.fault.Kind.TheVariants.{Text}
 use Rattle.platform_file.specs.Platform.{PlatformView}
@@ -7,22 +8,57 @@ use Rattle.platform_file.specs.declared.fault.TimedFault.{TimedFault}
 use Rattle.platform_file.specs.Reading.{most_bytes, platform_of}
 use Rattle.platform_file.specs.Ticks.{TimedView, timed_of}
 use Rattle.schedule_model.specs.declared.schedule.Series.TheVariants.{Tasking}
+use Rattle.linear_program.specs.Certificates.{CertificateView}
+use Rattle.tasking_program.specs.Programme.{tasking_programme}
+use Rattle.dual_checker.specs.declared.verdict.Verdict.{Verdict}
+use Rattle.dual_checker.specs.declared.verdict.Verdict.TheVariants.{Proves, Negative, Column, Value, Overflow}
+use Rattle.dual_checker.specs.declared.reading.CertificateFault.{CertificateFault}
+use Rattle.dual_checker.specs.declared.reading.CertificateFault.TheVariants as text
+use Rattle.dual_checker.specs.Texts.{certificate_text}
+use Rattle.dual_checker.specs.Reading.{certificate_of}
+use Rattle.dual_checker.specs.Verdicts.{verdict_of}
+use Rattle.planner.specs.declared.fault.PlanFault.{PlanFault}
+use Rattle.planner.specs.Prices.{prices_of}
+use Rattle.text_lines.specs.Lines.{line}
 use Rattle.steady_top.specs.LoneTables.{uses_links, lone_table}
 use Rattle.steady_top.specs.PlanText.{plan_text}
-use Rattle.steady_top.specs.Refusals.{Refusal, usage, refused, limit, links_not_yet, cannot_read, platform_refusal, timed_refusal}
+use Rattle.steady_top.specs.Refusals.{Refusal, usage, refused, limit, links_not_yet, long_certificate, certificate_line, negative_price, uncovered_column, passed_value, check_overflow, cannot_read, no_memory, platform_refusal, timed_refusal, plan_refusal}
 
--- `plan FILE`
+-- `plan FILE`, `prices FILE` or `check FILE CERTIFICATE`
 pub data Command : Type 0 where
   plan : List ℕ → Command
+  prices : List ℕ → Command
+  check : List ℕ → List ℕ → Command
+
+-- the file that a command opens first
+abbrev pub first_name : Command → List ℕ
+first_name (plan name) = name
+first_name (prices name) = name
+first_name (check name certificate) = name
+
+-- the file that it opens behind it, where it opens two
+abbrev pub second_name : Command → List ℕ
+second_name (plan name) = name
+second_name (prices name) = name
+second_name (check name certificate) = certificate
 
 -- the word begins as an option does
 abbrev pub begins_with_dash : List ℕ → Bool
 begins_with_dash [] = false
 begins_with_dash (byte ∷ bytes) = nat_eq byte 45
 
--- the command that the words give, if any: exactly `plan` and a name that doesn't begin with `-`
+-- the command of a word and a name
+abbrev pub command_of_one : List ℕ → List ℕ → Option Command
+command_of_one word name = cond (bytes_eq word (codes "plan")) (Some (plan name)) (cond (bytes_eq word (codes "prices")) (Some (prices name)) None)
+
+-- the command of a word and two names
+abbrev pub command_of_two : List ℕ → List ℕ → List ℕ → Option Command
+command_of_two word name second = cond (bytes_eq word (codes "check")) (Some (check name second)) None
+
+-- the command that the words give, if any: exactly its word and its names, none of which begins with `-`
 abbrev pub command_of : List (List ℕ) → Option Command
-command_of (word ∷ (name ∷ [])) = cond (bytes_eq word (codes "plan") && not (begins_with_dash name)) (Some (plan name)) None
+command_of (word ∷ (name ∷ [])) = cond (begins_with_dash name) None (command_of_one word name)
+command_of (word ∷ (name ∷ (second ∷ []))) = cond (begins_with_dash name || begins_with_dash second) None (command_of_two word name second)
 command_of _ = None
 
 -- the program prints these bytes, or refuses
@@ -30,29 +66,84 @@ pub data Outcome : Type 0 where
   prints : List ℕ → Outcome
   refuses : Refusal → Outcome
 
+-- what comes of a platform that is brought into ticks
+abbrev pub with_timed : (TimedView → Outcome) → Result TimedView TimedFault → Outcome
+with_timed next (Err fault) = refuses (timed_refusal fault)
+with_timed next (Ok t) = next t
+
+-- what comes of a platform that is read
+abbrev pub with_platform : (TimedView → Outcome) → Result PlatformView PlatformFault → Outcome
+with_platform next (Err fault) = refuses (platform_refusal fault)
+with_platform next (Ok p) = with_timed next (timed_of p)
+
+-- what comes of the bytes of a platform file; of a longer one no more is read than one byte past the limit
+abbrev pub with_file : (TimedView → Outcome) → List ℕ → Outcome
+with_file next bytes = cond (nat_lt most_bytes (length bytes)) (refuses (refused (limit Text (most_bytes + 1)))) (with_platform next (platform_of bytes))
+
+-- what comes of what the files hold under the name of a platform file, if there is such a file
+abbrev pub with_name : (TimedView → Outcome) → List ℕ → Option (List ℕ) → Outcome
+with_name next name None = refuses (cannot_read name)
+with_name next name (Some bytes) = with_file next bytes
+
 -- a platform's plan is that of the best table, which is known so far where no link is used
-abbrev pub plan_of_timed : Result TimedView TimedFault → Outcome
-plan_of_timed (Err fault) = refuses (timed_refusal fault)
-plan_of_timed (Ok t) = cond (uses_links t.platform) (refuses (refused links_not_yet)) (prints (plan_text t Tasking (lone_table t)))
+abbrev pub plan_of : TimedView → Outcome
+plan_of t = cond (uses_links t.platform) (refuses (refused links_not_yet)) (prints (plan_text t Tasking (lone_table t)))
 
--- a platform is planned in ticks
-abbrev pub plan_of_platform : Result PlatformView PlatformFault → Outcome
-plan_of_platform (Err fault) = refuses (platform_refusal fault)
-plan_of_platform (Ok p) = plan_of_timed (timed_of p)
+-- how many pivots are made at the most
+abbrev pub most_pivots : ℕ
+most_pivots = 100000
 
--- of a longer file no more is read than one byte past the limit
-abbrev pub plan_of_file : List ℕ → Outcome
-plan_of_file bytes = cond (nat_lt most_bytes (length bytes)) (refuses (refused (limit Text (most_bytes + 1)))) (plan_of_platform (platform_of bytes))
+-- the text of a certificate, or why there is none; a run over a bounded programme always has an answer
+abbrev pub priced : Option (Result CertificateView PlanFault) → Outcome
+priced (Some (Ok c)) = prints (certificate_text Tasking c)
+priced (Some (Err fault)) = refuses (plan_refusal fault)
+priced None = refuses no_memory
 
--- what the files hold under the name, if there is such a file
-abbrev pub plan_of_name : List ℕ → Option (List ℕ) → Outcome
-plan_of_name name None = refuses (cannot_read name)
-plan_of_name name (Some bytes) = plan_of_file bytes
+-- a platform's certificate of the best rate
+abbrev pub certificate_for : TimedView → Outcome
+certificate_for t = priced (prices_of most_pivots t)
 
--- what comes of a command, where each name holds these contents
+-- the line of a certificate that proves: its rate in tasks per tick, and the ticks of a time unit
+abbrev pub upper_text : TimedView → CertificateView → List ℕ
+upper_text t c = line (codes "upper " ++ (signed_decimal c.best ++ (codes " tasks per " ++ (signed_decimal c.scale ++ (codes " ticks, unit " ++ decimal t.unit)))))
+
+-- what a verdict comes to
+abbrev pub judged : TimedView → CertificateView → Verdict → Outcome
+judged t c Proves = prints (upper_text t c)
+judged t c (Negative row) = refuses (refused (negative_price row))
+judged t c (Column column) = refuses (refused (uncovered_column column))
+judged t c Value = refuses (refused passed_value)
+judged t c (Overflow column) = refuses (refused (check_overflow column))
+
+-- a certificate that is read is checked
+abbrev pub judged_reading : TimedView → Result CertificateView CertificateFault → Outcome
+judged_reading t (Ok c) = judged t c (verdict_of (tasking_programme t) c)
+judged_reading t (Err (text.Line number)) = refuses (refused (certificate_line number))
+judged_reading t (Err text.NoMemory) = refuses no_memory
+
+-- what comes of the bytes of a certificate; of a longer one no more is read than one byte past the limit
+abbrev pub check_of_file : TimedView → List ℕ → Outcome
+check_of_file t bytes = cond (nat_lt most_bytes (length bytes)) (refuses (refused long_certificate)) (judged_reading t (certificate_of Tasking (length (tasking_programme t).rows) bytes))
+
+-- what the files hold under the name of a certificate, if there is such a file
+abbrev pub check_of_name : List ℕ → Option (List ℕ) → TimedView → Outcome
+check_of_name name None t = refuses (cannot_read name)
+check_of_name name (Some bytes) t = check_of_file t bytes
+
+-- what comes of a platform in ticks and of the second file
+abbrev pub work_of : Command → Option (List ℕ) → TimedView → Outcome
+work_of (plan name) second t = plan_of t
+work_of (prices name) second t = certificate_for t
+work_of (check name certificate) second t = check_of_name certificate second t
+
+-- what comes of a command, of what its first name holds and of what its second one holds
+abbrev pub outcome_for : Command → Option (List ℕ) → Option (List ℕ) → Outcome
+outcome_for command first second = with_name (work_of command second) (first_name command) first
+
+-- what comes of the words' command, where each name holds these contents
 abbrev pub outcome_of_command : (List ℕ → Option (List ℕ)) → Option Command → Outcome
 outcome_of_command files None = refuses usage
-outcome_of_command files (Some (plan name)) = plan_of_name name (files name)
+outcome_of_command files (Some command) = outcome_for command (files (first_name command)) (files (second_name command))
 
 -- what the program answers
 abbrev pub outcome_of : List (List ℕ) → (List ℕ → Option (List ℕ)) → Outcome

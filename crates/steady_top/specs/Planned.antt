@@ -1,37 +1,32 @@
--- What planning a named file comes to, before anything is written (this project).
-use Rattle.std.specs.Prelude.{◌≡◌, ℕ, List, Some, Ok}
+-- What reading a named platform file comes to, and a named certificate (this project).
+use Rattle.std.specs.Prelude.{◌≡◌, ℕ, ◌*◌, nat_abs, List, length, Some, Ok}
 use Rattle.outside_io.specs.Files.{FilesView, HasCause}
 use Rattle.outside_io.specs.Faults.{raised}
-use Rattle.platform_file.specs.Platform.{PlatformView}
-use Rattle.platform_file.specs.Reading.{platform_of}
-use Rattle.platform_file.specs.Ticks.{TimedView, timed_of}
+use Rattle.platform_file.specs.Ticks.{TimedView}
 use Rattle.schedule_model.specs.declared.schedule.Series.TheVariants.{Tasking}
-use Rattle.steady_top.specs.declared.table.Table.{Table}
-use Rattle.steady_top.specs.Best.{IsBest}
-use Rattle.steady_top.specs.PlanText.{plan_text}
+use Rattle.schedule_model.specs.Throughput.{IsUpperRate}
+use Rattle.linear_program.specs.Certificates.{CertificateView}
+use Rattle.tasking_program.specs.Programme.{tasking_programme}
+use Rattle.dual_checker.specs.Reading.{certificate_of}
+use Rattle.dual_checker.specs.Verdicts.{verdict_of}
+use Rattle.dual_checker.specs.declared.verdict.Verdict.TheVariants.{Proves}
 use Rattle.steady_top.specs.Refusals.{Reason, Refusal, usage, refused, cannot_read, no_memory}
-use Rattle.steady_top.specs.Outcomes.{prints, refuses, plan_of_file}
-use Rattle.steady_top.specs.Answers.{MayBe}
+use Rattle.steady_top.specs.Outcomes.{Outcome, refuses, with_file, judged_reading, check_of_file, upper_text}
+use Rattle.steady_top.specs.Answers.{MayBe, IsPlatformOf}
 
--- the text is the plan of the file's platform
-pub record IsPlanned (before : FilesView) (name : List ℕ) (after : FilesView) (text : List ℕ) : Type 0 where
-  pub bytes : List ℕ
-  pub file : MayBe (before.held name) (Some bytes)
-  pub outcome : plan_of_file bytes ≡ prints text
+-- the platform of the file was read and brought into ticks, in one open
+pub record IsPlatformRead (before : FilesView) (name : List ℕ) (after : FilesView) (t : TimedView) : Type 0 where
+  pub platform : IsPlatformOf before name t
+  pub short : (next : TimedView → Outcome) → with_file next platform.bytes ≡ next t
   pub calm : after.faults ≡ before.faults
-  pub platform : PlatformView
-  pub read : platform_of bytes ≡ Ok platform
-  pub timed : TimedView
-  pub in_ticks : timed_of platform ≡ Ok timed
-  pub table : Table
-  pub best : IsBest timed Tasking table
-  pub is_plan : text ≡ plan_text timed Tasking table
+  pub held : (other : List ℕ) → after.held other ≡ before.held other
+  pub one_open : after.opens ≡ raised before.opens 1
 
--- what was read of the file is refused
+-- what was read of a platform file is refused, whatever was to come of it
 pub record IsFileRefused (before : FilesView) (name : List ℕ) (reason : Reason) : Type 0 where
   pub bytes : List ℕ
   pub file : MayBe (before.held name) (Some bytes)
-  pub outcome : plan_of_file bytes ≡ refuses (refused reason)
+  pub outcome : (next : TimedView → Outcome) → with_file next bytes ≡ refuses (refused reason)
 
 -- the file can't be opened or read
 pub record IsFileFault (before : FilesView) (name : List ℕ) (after : FilesView) (named : List ℕ) : Type 0 where
@@ -39,9 +34,43 @@ pub record IsFileFault (before : FilesView) (name : List ℕ) (after : FilesView
   pub cause : HasCause before name after
   pub one_open : after.opens ≡ raised before.opens 1
 
--- why there is no plan: of the file alone, never of the words
-abbrev pub IsPlanFault : FilesView → List ℕ → FilesView → Refusal → Type 0
-IsPlanFault before name after (cannot_read named) = IsFileFault before name after named
-IsPlanFault before name after no_memory = Unit {0}
-IsPlanFault before name after usage = ⊥
-IsPlanFault before name after (refused reason) = IsFileRefused before name reason
+-- why a platform file isn't read: by the file alone, never by the words
+abbrev pub IsPlatformFault : FilesView → List ℕ → FilesView → Refusal → Type 0
+IsPlatformFault before name after (cannot_read named) = IsFileFault before name after named
+IsPlatformFault before name after no_memory = Unit {0}
+IsPlatformFault before name after usage = ⊥
+IsPlatformFault before name after (refused reason) = IsFileRefused before name reason
+
+-- the certificate of the file was read
+pub record IsCertificateRead (t : TimedView) (before : FilesView) (name : List ℕ) (after : FilesView) (c : CertificateView) : Type 0 where
+  pub bytes : List ℕ
+  pub file : MayBe (before.held name) (Some bytes)
+  pub read : certificate_of Tasking (length (tasking_programme t).rows) bytes ≡ Ok c
+  pub short : check_of_file t bytes ≡ judged_reading t (Ok c)
+  pub calm : after.faults ≡ before.faults
+
+-- what was read of a certificate file is refused
+pub record IsCertificateRefused (t : TimedView) (before : FilesView) (name : List ℕ) (reason : Reason) : Type 0 where
+  pub bytes : List ℕ
+  pub file : MayBe (before.held name) (Some bytes)
+  pub outcome : check_of_file t bytes ≡ refuses (refused reason)
+
+-- why a certificate file isn't read
+abbrev pub IsCertificateFault : TimedView → FilesView → List ℕ → FilesView → Refusal → Type 0
+IsCertificateFault t before name after (cannot_read named) = IsFileFault before name after named
+IsCertificateFault t before name after no_memory = Unit {0}
+IsCertificateFault t before name after usage = ⊥
+IsCertificateFault t before name after (refused reason) = IsCertificateRefused t before name reason
+
+-- the certificate proves that no schedule exceeds its rate, and the text says so
+pub record IsProved (t : TimedView) (c : CertificateView) (text : List ℕ) : Type 0 where
+  pub proves : verdict_of (tasking_programme t) c ≡ Proves
+  pub rate : IsUpperRate t Tasking (nat_abs c.best * t.unit) (nat_abs c.scale)
+  pub is_line : text ≡ upper_text t c
+
+-- the certificate is refused so; want of memory may come at any time
+abbrev pub IsJudged : TimedView → CertificateView → Refusal → Type 0
+IsJudged t c no_memory = Unit {0}
+IsJudged t c usage = ⊥
+IsJudged t c (cannot_read name) = ⊥
+IsJudged t c (refused reason) = judged_reading t (Ok c) ≡ refuses (refused reason)

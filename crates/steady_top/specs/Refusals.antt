@@ -8,6 +8,8 @@ use Rattle.platform_file.specs.declared.fault.Kind.{Kind}
 use Rattle.platform_file.specs.declared.fault.Kind.TheVariants as kind
 use Rattle.platform_file.specs.declared.fault.Place.{Place}
 use Rattle.platform_file.specs.Places.{place_text}
+use Rattle.planner.specs.declared.fault.PlanFault.{PlanFault}
+use Rattle.planner.specs.declared.fault.PlanFault.TheVariants as plans
 use Rattle.ratio_core.specs.declared.text.RatioFault.{RatioFault}
 use Rattle.ratio_core.specs.declared.text.RatioFault.TheVariants as ratio
 use Rattle.steady_top.specs.declared.status.Status.{Status}
@@ -40,6 +42,22 @@ pub data Reason : Type 0 where
   unit : ℕ → ℕ → Reason
   -- a plan would use a link, and such plans aren't built yet
   links_not_yet : Reason
+  -- after so many pivots the next one overflows, first at this cell
+  pivot : ℕ → ℕ → ℕ → Reason
+  -- so many pivots are spent
+  spent : ℕ → Reason
+  -- the certificate's file is too long
+  long_certificate : Reason
+  -- this line isn't a certificate's
+  certificate_line : ℕ → Reason
+  -- the price of this row is below 0
+  negative_price : ℕ → Reason
+  -- the prices don't cover this column
+  uncovered_column : ℕ → Reason
+  -- the prices make more of the right-hand sides than the certificate's best
+  passed_value : Reason
+  -- a sum of this column passes its bound in the check
+  check_overflow : ℕ → Reason
 
 -- a refusal, with what its error line names
 pub data Refusal : Type 0 where
@@ -71,9 +89,23 @@ abbrev pub timed_refusal : TimedFault → Refusal
 timed_refusal (ticks.Unit left right) = refused (unit left right)
 timed_refusal ticks.NoMemory = no_memory
 
+-- the refusal for a platform that isn't planned
+abbrev pub plan_refusal : PlanFault → Refusal
+plan_refusal (plans.Pivot pivots row column) = refused (pivot pivots row column)
+plan_refusal (plans.Spent pivots) = refused (spent pivots)
+plan_refusal plans.NoMemory = no_memory
+
 -- the status of a reason
 abbrev pub reason_status : Reason → Status
 reason_status (unit left right) = status.Overflow
+reason_status (pivot pivots row column) = status.Overflow
+reason_status (check_overflow column) = status.Overflow
+reason_status (spent pivots) = status.Spent
+reason_status long_certificate = status.TooLong
+reason_status (certificate_line number) = status.Refused
+reason_status (negative_price row) = status.Refused
+reason_status (uncovered_column column) = status.Refused
+reason_status passed_value = status.Refused
 reason_status reason = status.Platform
 
 -- the status with which a refusal ends the program
@@ -110,6 +142,14 @@ reason_text (twice_linked link) = codes "platform: link " ++ (decimal link ++ co
 reason_text (bad_ratio place cause) = codes "platform: bad ratio at " ++ (place_text place ++ (codes ": " ++ cause_text cause))
 reason_text (unit left right) = codes "ticks overflow: lcm of " ++ (decimal left ++ (codes " and " ++ decimal right))
 reason_text links_not_yet = codes "platform: links not built"
+reason_text (pivot pivots row column) = codes "pivot overflow after " ++ (decimal pivots ++ (codes " pivots at cell " ++ (decimal row ++ (codes " " ++ decimal column))))
+reason_text (spent pivots) = codes "pivot limit " ++ (decimal pivots ++ codes " spent")
+reason_text long_certificate = codes "too long: certificate"
+reason_text (certificate_line number) = codes "certificate: line " ++ decimal number
+reason_text (negative_price row) = codes "certificate: price " ++ (decimal row ++ codes " negative")
+reason_text (uncovered_column column) = codes "certificate: column " ++ decimal column
+reason_text passed_value = codes "certificate: value"
+reason_text (check_overflow column) = codes "check overflow at column " ++ decimal column
 
 -- the error line's text after `error: `
 abbrev pub refusal_text : Refusal → List ℕ

@@ -6,6 +6,7 @@ ghost use Rattle.steady_top.specs.Faults.{refusal_of};
 
 use crate::status::Status;
 use listed::NoMemory;
+use planner::PlanFault;
 use platform_file::{Kind, Place, PlatformFault, TimedFault};
 use ratio_core::RatioFault;
 use std::alloc::Global;
@@ -40,6 +41,22 @@ pub enum TopFault<'a> {
     Unit(u128, u128),
     /// A plan would use a link, and such plans aren't built yet.
     LinksNotYet,
+    /// After so many pivots the next one passes 2^127 - 1 in size, first at this row and column of the table.
+    Pivot(u64, u32, u32),
+    /// The best rate isn't reached after so many pivots.
+    Spent(u64),
+    /// The certificate's file is longer than 1 MiB.
+    LongCertificate,
+    /// This line, counted from 1, is the first that isn't a certificate's.
+    CertificateLine(u64),
+    /// The price of this row is below 0.
+    NegativePrice(u32),
+    /// The prices don't cover this column.
+    UncoveredColumn(u32),
+    /// The prices make more of the right-hand sides than the certificate's best.
+    PassedValue,
+    /// A product or a sum of this column passes 2^127 - 1 in size in the check.
+    CheckOverflow(u32),
     /// The file with this name can't be opened or read.
     CannotRead(&'a str),
     /// Memory ran out.
@@ -91,6 +108,17 @@ impl fmt::Display for TopFault<'_> {
             }
             TopFault::Unit(left, right) => write!(f, "ticks overflow: lcm of {left} and {right}"),
             TopFault::LinksNotYet => write!(f, "platform: links not built"),
+            TopFault::Pivot(pivots, row, column) => write!(
+                f,
+                "pivot overflow after {pivots} pivots at cell {row} {column}"
+            ),
+            TopFault::Spent(limit) => write!(f, "pivot limit {limit} spent"),
+            TopFault::LongCertificate => write!(f, "too long: certificate"),
+            TopFault::CertificateLine(number) => write!(f, "certificate: line {number}"),
+            TopFault::NegativePrice(row) => write!(f, "certificate: price {row} negative"),
+            TopFault::UncoveredColumn(column) => write!(f, "certificate: column {column}"),
+            TopFault::PassedValue => write!(f, "certificate: value"),
+            TopFault::CheckOverflow(column) => write!(f, "check overflow at column {column}"),
             TopFault::CannotRead(name) => write!(f, "cannot read {name}"),
             TopFault::NoMemory => write!(f, "out of memory"),
         }
@@ -134,6 +162,25 @@ impl From<TimedFault> for TopFault<'_> {
     }
 }
 
+impl From<PlanFault> for TopFault<'_> {
+    ghost use Rattle.steady_top.specs.Refusals.{plan_refusal};
+    ghost use Rattle.steady_top.specs.Faults.{refusal_of};
+
+    ghost from_gives = { λ fault top. refusal_of top ≡ plan_refusal fault };
+
+    fn from(fault: PlanFault) -> Self {
+        match fault {
+            PlanFault::Pivot {
+                pivots,
+                row,
+                column,
+            } => TopFault::Pivot(pivots, row, column),
+            PlanFault::Spent { limit } => TopFault::Spent(limit),
+            PlanFault::NoMemory => TopFault::NoMemory,
+        }
+    }
+}
+
 impl From<NoMemory> for TopFault<'_> {
     ghost use Rattle.steady_top.specs.Refusals.{no_memory};
     ghost use Rattle.steady_top.specs.Faults.{refusal_of};
@@ -163,7 +210,14 @@ impl TopFault<'_> {
             | TopFault::TwiceLinked(_)
             | TopFault::BadRatio(..)
             | TopFault::LinksNotYet => Status::Platform,
-            TopFault::Unit(..) => Status::Overflow,
+            TopFault::Unit(..) | TopFault::Pivot(..) | TopFault::CheckOverflow(_) =>
+                Status::Overflow,
+            TopFault::Spent(_) => Status::Spent,
+            TopFault::LongCertificate => Status::TooLong,
+            TopFault::CertificateLine(_)
+            | TopFault::NegativePrice(_)
+            | TopFault::UncoveredColumn(_)
+            | TopFault::PassedValue => Status::Refused,
             TopFault::CannotRead(_) => Status::ReadFault,
             TopFault::NoMemory => Status::NoMemory,
         }

@@ -1,24 +1,39 @@
-//! The plan of a platform file.
+//! What each command makes of its files.
 
-ghost use Rattle.std.specs.Prelude.{string_bytes, MatchResult};
+ghost use Rattle.std.specs.Prelude.{◌≡◌, ◌++◌, codes, decimal, length, string_bytes, MatchResult, IfOk, OnOk};
+ghost use Rattle.std.specs.Fmt.{signed_decimal};
+ghost use Rattle.text_lines.specs.Lines.{line};
+ghost use Rattle.tasking_program.specs.Programme.{tasking_programme};
 ghost use Rattle.steady_top.specs.Faults.{refusal_of};
-ghost use Rattle.steady_top.specs.Planned.{IsPlanned, IsPlanFault};
+ghost use Rattle.steady_top.specs.Outcomes.{Command, upper_text};
+ghost use Rattle.steady_top.specs.Answers.{IsMade, IsCauseFor};
+ghost use Rattle.steady_top.specs.Planned.{IsPlatformRead, IsPlatformFault, IsCertificateRead, IsCertificateFault, IsProved, IsJudged};
 
 use crate::fault::TopFault;
 use crate::lone::{lone_master_table, uses_links};
 use crate::plan_text::print_plan;
+use dual_checker::{CertificateFault, Verdict, print_certificate, read_certificate};
+use linear_program::{Certificate, Lp};
+use listed::NoMemory;
 use outside_io::{Files, ReadEnd, read_whole};
-use platform_file::{Kind, MOST_BYTES, read_platform, timed};
+use platform_file::{Kind, MOST_BYTES, Timed, read_platform, timed};
+use schedule_model::Series;
 use std::alloc::Global;
+use tasking_program::tasking_lp;
 
-/// The plan text of the platform in the named file. The steps that can refuse come in this order: the file, its text, its ticks,
-/// its links.
-pub fn plan<'a, F: Files>(
+/// How many pivots are made at the most.
+const MOST_PIVOTS: u64 = 100000;
+
+/// The most bytes of a certificate.
+const MOST_CERTIFICATE_BYTES: u64 = 1048576;
+
+/// The platform of the named file, in ticks. The steps that can refuse come in this order: the file, its text, its ticks.
+fn read_timed<'a, F: Files>(
     alloc: Global,
     files: &mut F,
     name: &'a str,
-) -> Result<String, TopFault<'a>>
-    ensures { MatchResult result (λ text. IsPlanned (F.state files.old) name.now (F.state files.new) (string_bytes text)) (λ fault. IsPlanFault (F.state files.old) name.now (F.state files.new) (refusal_of fault)) }
+) -> Result<Timed, TopFault<'a>>
+    ensures { MatchResult result (λ t. IsPlatformRead (F.state files.old) name.now (F.state files.new) t) (λ fault. IsPlatformFault (F.state files.old) name.now (F.state files.new) (refusal_of fault)) }
 {
     let bytes = match read_whole(alloc, files, name, MOST_BYTES) {
         Ok(bytes) => bytes,
@@ -27,10 +42,131 @@ pub fn plan<'a, F: Files>(
         Err(ReadEnd::NoMemory) => return Err(TopFault::NoMemory),
     };
     let platform = read_platform(alloc, &bytes)?;
-    let timed = timed(alloc, platform)?;
+    Ok(timed(alloc, platform)?)
+}
+
+/// The plan text of the platform in the named file, where no link is of use to it.
+pub fn plan<'a, F: Files>(
+    alloc: Global,
+    files: &mut F,
+    name: &'a str,
+) -> Result<String, TopFault<'a>>
+    ensures { MatchResult result (λ text. IsMade (Command.plan name.now) (F.state files.old) (F.state files.new) (string_bytes text)) (λ fault. IsCauseFor (Command.plan name.now) (F.state files.old) (F.state files.new) (refusal_of fault)) }
+{
+    let timed = read_timed(alloc, files, name)?;
     if uses_links(timed.platform()) {
         return Err(TopFault::LinksNotYet);
     }
     let table = lone_master_table(alloc, &timed)?;
     Ok(print_plan(alloc, &timed, &table)?)
+}
+
+/// The certificate of the best rate of the platform in the named file.
+pub fn prices<'a, F: Files>(
+    alloc: Global,
+    files: &mut F,
+    name: &'a str,
+) -> Result<String, TopFault<'a>>
+    ensures { MatchResult result (λ text. IsMade (Command.prices name.now) (F.state files.old) (F.state files.new) (string_bytes text)) (λ fault. IsCauseFor (Command.prices name.now) (F.state files.old) (F.state files.new) (refusal_of fault)) }
+{
+    let timed = read_timed(alloc, files, name)?;
+    let certificate = planner::prices(alloc, &timed, Series::Tasking, MOST_PIVOTS)?;
+    Ok(print_certificate(alloc, Series::Tasking, &certificate)?)
+}
+
+/// The certificate in the named file, for the programme of a platform.
+fn read_named_certificate<'a, F: Files>(
+    alloc: Global,
+    files: &mut F,
+    name: &'a str,
+    timed: &Timed,
+    lp: &Lp,
+) -> Result<Certificate, TopFault<'a>>
+    requires { lp.now ≡ tasking_programme timed.now }
+    ensures read { MatchResult result (λ c. IsCertificateRead timed.now (F.state files.old) name.now (F.state files.new) c) (λ fault. IsCertificateFault timed.now (F.state files.old) name.now (F.state files.new) (refusal_of fault)) }
+    ensures rows { IfOk result (λ c. length c.prices ≡ length lp.now.rows) }
+{
+    lp.known();
+    let bytes = match read_whole(alloc, files, name, MOST_CERTIFICATE_BYTES) {
+        Ok(bytes) => bytes,
+        Err(ReadEnd::Failed) => return Err(TopFault::CannotRead(name)),
+        Err(ReadEnd::Longer) => return Err(TopFault::LongCertificate),
+        Err(ReadEnd::NoMemory) => return Err(TopFault::NoMemory),
+    };
+    match read_certificate(alloc, Series::Tasking, lp.rows().len() as u32, &bytes) {
+        Ok(certificate) => Ok(certificate),
+        Err(CertificateFault::Line(number)) => Err(TopFault::CertificateLine(number)),
+        Err(CertificateFault::NoMemory) => Err(TopFault::NoMemory),
+    }
+}
+
+/// Appends the best of a certificate.
+fn push_best(out: &mut String, best: i128) -> Result<(), NoMemory>
+    ensures { OnOk result (string_bytes out.new ≡ string_bytes out.old ++ (codes "upper " ++ signed_decimal best)) }
+{
+    write!(out, "upper {best}")?;
+    Ok(())
+}
+
+/// Appends its scale.
+fn push_scale(out: &mut String, scale: i128) -> Result<(), NoMemory>
+    ensures { OnOk result (string_bytes out.new ≡ string_bytes out.old ++ (codes " tasks per " ++ signed_decimal scale)) }
+{
+    write!(out, " tasks per {scale}")?;
+    Ok(())
+}
+
+/// Appends the ticks of a time unit, and ends the line.
+fn push_unit(out: &mut String, unit: u64) -> Result<(), NoMemory>
+    ensures { OnOk result (string_bytes out.new ≡ string_bytes out.old ++ line (codes " ticks, unit " ++ decimal unit)) }
+{
+    write!(out, " ticks, unit {unit}\n")?;
+    Ok(())
+}
+
+/// The line of a certificate that proves.
+fn upper_line(alloc: Global, timed: &Timed, certificate: &Certificate) -> Result<String, NoMemory>
+    ensures { IfOk result (λ text. string_bytes text ≡ upper_text timed.now certificate.now) }
+{
+    let mut out = String::new(alloc);
+    push_best(&mut out, certificate.best())?;
+    push_scale(&mut out, certificate.scale())?;
+    push_unit(&mut out, timed.unit())?;
+    Ok(out)
+}
+
+/// What the check of a certificate comes to.
+fn judge<'a>(
+    alloc: Global,
+    timed: &Timed,
+    lp: &Lp,
+    certificate: &Certificate,
+) -> Result<String, TopFault<'a>>
+    requires programme { lp.now ≡ tasking_programme timed.now }
+    requires rows { length certificate.now.prices ≡ length lp.now.rows }
+    ensures text { MatchResult result (λ text. IsProved timed.now certificate.now (string_bytes text)) (λ fault. IsJudged timed.now certificate.now (refusal_of fault)) }
+{
+    timed.known();
+    match dual_checker::check(lp, certificate) {
+        Verdict::Proves => Ok(upper_line(alloc, timed, certificate)?),
+        Verdict::Negative(row) => Err(TopFault::NegativePrice(row)),
+        Verdict::Column(column) => Err(TopFault::UncoveredColumn(column)),
+        Verdict::Value => Err(TopFault::PassedValue),
+        Verdict::Overflow(column) => Err(TopFault::CheckOverflow(column)),
+    }
+}
+
+/// The rate that the certificate in the second file proves for the platform in the first.
+pub fn check<'a, F: Files>(
+    alloc: Global,
+    files: &mut F,
+    name: &'a str,
+    second: &'a str,
+) -> Result<String, TopFault<'a>>
+    ensures { MatchResult result (λ text. IsMade (Command.check name.now second.now) (F.state files.old) (F.state files.new) (string_bytes text)) (λ fault. IsCauseFor (Command.check name.now second.now) (F.state files.old) (F.state files.new) (refusal_of fault)) }
+{
+    let timed = read_timed(alloc, files, name)?;
+    let lp = tasking_lp(alloc, &timed)?;
+    let certificate = read_named_certificate(alloc, files, second, &timed, &lp)?;
+    judge(alloc, &timed, &lp, &certificate)
 }

@@ -1,10 +1,11 @@
 mod platforms;
 
+use crate::fault::TopFault;
 use crate::status::Status;
 use crate::top::steady;
 use outside_io::{MemoryFiles, MemorySink};
 use platforms::{
-    CUT_SHORT, FINE_TIMES, FRACTION, LONE_MASTER, ONE_WORKER, ONLY_BACK, OUT_OF_REACH,
+    CUT_SHORT, FINE_TIMES, FRACTION, LONE_MASTER, ONE_WORKER, ONLY_BACK, OUT_OF_REACH, TWO_WORKERS,
 };
 use std::alloc::Global;
 use std::test::Fail;
@@ -21,6 +22,10 @@ const IDLE_PLAN: &str =
 // 5/3 time units are 10 ticks of a sixth.
 const ONLY_BACK_PLAN: &str =
     "plan 1 tasking\nunit 6\nperiod 10\ntasks 1\ndepth 0\nrate 3/5\nroute 0 1 m\nslot 10\nend\n";
+
+/// The certificate of two workers.
+const PRICES: &str =
+    "prices 1 tasking\nrows 10\nscale 6\nbest 4\nprice 0 1\nprice 1 0\nprice 2 3\nprice 3 0\nprice 4 0\nprice 5 0\nprice 6 0\nprice 7 0\nprice 8 3\nprice 9 6\nend\n";
 
 /// The words as the program is given them, parted by a bar.
 fn words_of(alloc: Global, line: &str) -> Result<Vec<String>, Fail> {
@@ -52,10 +57,43 @@ fn answer(
     Ok((status, String::from_utf8_lossy(alloc, out.written())?))
 }
 
+/// What the program ends with and writes, where `P` holds a platform and `C` a certificate.
+fn answer_to_check(
+    alloc: Global,
+    line: &str,
+    platform: &str,
+    certificate: &[u8],
+    failing_files: &[u64],
+) -> Result<(Status, String), Fail> {
+    let words = words_of(alloc, line)?;
+    let mut held = Vec::new(alloc);
+    held.push((
+        String::from_str(alloc, "P")?,
+        platform.as_bytes().to_vec(alloc)?,
+    ))?;
+    held.push((String::from_str(alloc, "C")?, certificate.to_vec(alloc)?))?;
+    let mut files = MemoryFiles::new(held, failing_files.to_vec(alloc)?);
+    let mut out = MemorySink::new(alloc, 4096, Vec::new(alloc));
+    out.reserve(4096)?;
+    let status = steady(alloc, words.as_slice(), &mut files, &mut out);
+    Ok((status, String::from_utf8_lossy(alloc, out.written())?))
+}
+
 #[test]
 fn refuses_words(rt: HostRuntime) -> Result<(), Fail> {
     let alloc = rt.alloc();
-    for line in ["", "help", "plan", "plan|-P", "plan|P|P"] {
+    for line in [
+        "",
+        "help",
+        "plan",
+        "plan|-P",
+        "plan|P|P",
+        "prices",
+        "prices|-P",
+        "check|P",
+        "check|P|-P",
+        "check|P|P|P",
+    ] {
         let (ended, out) = answer(alloc, line, LONE_MASTER.as_bytes(), &[], 4096, &[])?;
         assert_eq!(rt; ended, Status::Usage, "{line}");
         assert_eq!(rt; out.as_str(), "error: usage\n", "{line}");
@@ -217,6 +255,172 @@ fn meets_failing_devices(rt: HostRuntime) -> Result<(), Fail> {
         let (ended, out) = answer(alloc, "plan|P", lone, failing_files, most, failing_sink)?;
         assert_eq!(rt; ended, status, "{written}");
         assert_eq!(rt; out.as_str(), written);
+    }
+    Ok(())
+}
+
+#[test]
+fn prints_prices(rt: HostRuntime) -> Result<(), Fail> {
+    let alloc = rt.alloc();
+    let (ended, out) = answer(alloc, "prices|P", TWO_WORKERS.as_bytes(), &[], 4096, &[])?;
+    assert_eq!(rt; ended, Status::Done);
+    assert_eq!(rt; out.as_str(), PRICES);
+    Ok(())
+}
+
+#[test]
+fn checks_certificates(rt: HostRuntime) -> Result<(), Fail> {
+    let alloc = rt.alloc();
+    for (old, new, status, written) in [
+        (
+            "end",
+            "end",
+            Status::Done,
+            "upper 4 tasks per 6 ticks, unit 1\n",
+        ),
+        (
+            "best 4",
+            "best 5",
+            Status::Done,
+            "upper 5 tasks per 6 ticks, unit 1\n",
+        ),
+        (
+            "price 2 3",
+            "price 2 2",
+            Status::Refused,
+            "error: certificate: column 2\n",
+        ),
+        (
+            "price 3 0",
+            "price 3 -1",
+            Status::Refused,
+            "error: certificate: price 3 negative\n",
+        ),
+        (
+            "best 4",
+            "best 3",
+            Status::Refused,
+            "error: certificate: value\n",
+        ),
+        (
+            "rows 10",
+            "rows 9",
+            Status::Refused,
+            "error: certificate: line 2\n",
+        ),
+        (
+            "price 7 0",
+            "price 7 00",
+            Status::Refused,
+            "error: certificate: line 12\n",
+        ),
+        (
+            "end\n",
+            "end\n\n",
+            Status::Refused,
+            "error: certificate: line 16\n",
+        ),
+    ] {
+        let certificate = PRICES.replace(alloc, old, new)?;
+        let (ended, out) = answer_to_check(
+            alloc,
+            "check|P|C",
+            TWO_WORKERS,
+            certificate.as_bytes(),
+            &[],
+        )?;
+        assert_eq!(rt; ended, status, "{written}");
+        assert_eq!(rt; out.as_str(), written);
+    }
+    Ok(())
+}
+
+#[test]
+fn tells_that_a_check_overflows(rt: HostRuntime) -> Result<(), Fail> {
+    let alloc = rt.alloc();
+    let certificate =
+        "prices 1 tasking\nrows 3\nscale 2\nbest 1\nprice 0 170141183460469231731687303715884105727\nprice 1 0\nprice 2 0\nend\n";
+    let (ended, out) = answer_to_check(
+        alloc,
+        "check|P|C",
+        LONE_MASTER,
+        certificate.as_bytes(),
+        &[],
+    )?;
+    assert_eq!(rt; ended, Status::Overflow);
+    assert_eq!(rt; out.as_str(), "error: check overflow at column 0\n");
+    Ok(())
+}
+
+#[test]
+fn refuses_a_long_certificate(rt: HostRuntime) -> Result<(), Fail> {
+    let alloc = rt.alloc();
+    let certificate = vec![in alloc; b'1'; 1048577]?;
+    let (ended, out) = answer_to_check(alloc, "check|P|C", TWO_WORKERS, &certificate, &[])?;
+    assert_eq!(rt; ended, Status::TooLong);
+    assert_eq!(rt; out.as_str(), "error: too long: certificate\n");
+    Ok(())
+}
+
+#[test]
+fn reads_the_platform_before_the_certificate(rt: HostRuntime) -> Result<(), Fail> {
+    let alloc = rt.alloc();
+    let not_toml = "error: platform: not TOML\n";
+    let (none, fourth) = (&[][..], &[3][..]);
+    for (line, platform, failing, status, written) in [
+        (
+            "check|nofile|C",
+            TWO_WORKERS,
+            none,
+            Status::ReadFault,
+            "error: cannot read nofile\n",
+        ),
+        (
+            "check|P|nofile",
+            TWO_WORKERS,
+            none,
+            Status::ReadFault,
+            "error: cannot read nofile\n",
+        ),
+        (
+            "check|P|C",
+            TWO_WORKERS,
+            fourth,
+            Status::ReadFault,
+            "error: cannot read C\n",
+        ),
+        (
+            "check|P|nofile",
+            CUT_SHORT,
+            none,
+            Status::Platform,
+            not_toml,
+        ),
+    ] {
+        let (ended, out) = answer_to_check(alloc, line, platform, PRICES.as_bytes(), failing)?;
+        assert_eq!(rt; ended, status, "{written}");
+        assert_eq!(rt; out.as_str(), written);
+    }
+    Ok(())
+}
+
+#[test]
+fn names_pivots(rt: HostRuntime) -> Result<(), Fail> {
+    for (fault, status, written) in [
+        (
+            TopFault::Pivot(7, 1, 2),
+            Status::Overflow,
+            "error: pivot overflow after 7 pivots at cell 1 2\n",
+        ),
+        (
+            TopFault::Spent(100000),
+            Status::Spent,
+            "error: pivot limit 100000 spent\n",
+        ),
+    ] {
+        assert_eq!(rt; fault.status(), status);
+        let line = fault.line(rt.alloc())?;
+        assert_eq!(rt; line.as_str(), written);
     }
     Ok(())
 }

@@ -5,12 +5,12 @@ ghost use Rattle.outside_io.specs.Faults.{Rose};
 ghost use Rattle.steady_top.specs.Faults.{refusal_of};
 ghost use Rattle.steady_top.specs.Refusals.{Refusal, status_of, usage, cannot_read, no_memory, error_line};
 ghost use Rattle.steady_top.specs.Outcomes.{command_of, outcome_of, prints, refuses};
-ghost use Rattle.steady_top.specs.Answers.{AreToldAs, IsAnswer, IsCause, IsPrinted, IsBestPrinted, IsRefused, IsRefusedWith, IsCutShort, IsStatus, IsResponse, IsOneOf, Ends};
+ghost use Rattle.steady_top.specs.Answers.{AreToldAs, IsAnswer, IsCause, IsPrinted, IsRefused, IsRefusedWith, IsCutShort, IsResponse, IsOneOf, Ends};
 
 use crate::fault::TopFault;
-use crate::planning::plan;
+use crate::planning::{check, plan, prices};
 use crate::status::Status;
-use crate::words::planned_file;
+use crate::words::{Command, command_in};
 use listed::NoMemory;
 use outside_io::{Failed, Files, Sink, write_whole};
 use std::alloc::Global;
@@ -23,8 +23,10 @@ fn answer<'a, F: Files>(
 ) -> Result<String, TopFault<'a>>
     ensures { MatchResult result (λ text. IsAnswer (map string_bytes words.now) (F.state files.old) (F.state files.new) (string_bytes text)) (λ fault. IsCause (map string_bytes words.now) (F.state files.old) (F.state files.new) (refusal_of fault)) }
 {
-    match planned_file(words) {
-        Some(name) => plan(alloc, files, name),
+    match command_in(words) {
+        Some(Command::Plan(name)) => plan(alloc, files, name),
+        Some(Command::Prices(name)) => prices(alloc, files, name),
+        Some(Command::Check(name, certificate)) => check(alloc, files, name, certificate),
         None => Err(TopFault::Usage),
     }
 }
@@ -59,28 +61,30 @@ fn respond<F: Files, S: Sink>(alloc: Global, words: &[String], files: &mut F, ou
     }
 }
 
-/// The program: reads what the words name, and writes a plan text or one error line.
+/// The program: reads what the words name, and writes a text or one error line.
 ///
-/// `plan FILE` prints the plan of the platform in the file. All of a text is made before its first byte is written.
+/// `plan FILE` prints the plan of the platform in the file, `prices FILE` the certificate of its best rate, and `check FILE CERTIFICATE`
+/// the rate that the certificate proves for it. All of a text is made before its first byte is written.
 pub fn steady<F: Files, S: Sink>(
     alloc: Global,
     words: &[String],
     files: &mut F,
     out: &mut S,
 ) -> Status
-    // Done only where the definitions print a text for the words and the files, and just that text was written.
+    // Done only where the definitions print a text for the words and the files, just that text was written, and it is what its command
+    // claims: the text of a best table, the certificate of the best rate, or a rate that a certificate proves; no schedule exceeds it.
     ensures done { result ≡ Status.Done → IsPrinted (map string_bytes words.now) (F.state files.old) (F.state files.new) (S.state out.old) (S.state out.new) }
-    // What is printed is the text of a best table for the platform of the file's bytes.
-    ensures best { result ≡ Status.Done → IsBestPrinted (map string_bytes words.now) (F.state files.old) (S.state out.old) (S.state out.new) }
 
     // Each refusal comes with its cause, and its one error line was written.
     ensures usage { result ≡ Status.Usage → IsRefused (map string_bytes words.now) (F.state files.old) (F.state files.new) (S.state out.old) (S.state out.new) usage }
     ensures platform { result ≡ Status.Platform → IsRefusedWith Status.Platform (map string_bytes words.now) (F.state files.old) (F.state files.new) (S.state out.old) (S.state out.new) }
     ensures overflow { result ≡ Status.Overflow → IsRefusedWith Status.Overflow (map string_bytes words.now) (F.state files.old) (F.state files.new) (S.state out.old) (S.state out.new) }
+    ensures spent { result ≡ Status.Spent → IsRefusedWith Status.Spent (map string_bytes words.now) (F.state files.old) (F.state files.new) (S.state out.old) (S.state out.new) }
+    ensures too_long { result ≡ Status.TooLong → IsRefusedWith Status.TooLong (map string_bytes words.now) (F.state files.old) (F.state files.new) (S.state out.old) (S.state out.new) }
+    ensures refused { result ≡ Status.Refused → IsRefusedWith Status.Refused (map string_bytes words.now) (F.state files.old) (F.state files.new) (S.state out.old) (S.state out.new) }
     ensures read_fault { result ≡ Status.ReadFault → (name : List ℕ) × IsRefused (map string_bytes words.now) (F.state files.old) (F.state files.new) (S.state out.old) (S.state out.new) (cannot_read name) }
     ensures memory { result ≡ Status.NoMemory → IsRefused (map string_bytes words.now) (F.state files.old) (F.state files.new) (S.state out.old) (S.state out.new) no_memory }
     ensures write_fault { result ≡ Status.WriteFault → IsCutShort (map string_bytes words.now) (F.state files.old) (F.state files.new) (S.state out.old) (S.state out.new) }
-    ensures no_other { IsStatus result }
 
     // Where the files tell what they hold and nothing failed, the answer is the one that the definitions give, or want of memory.
     ensures complete { (holds : List ℕ → Option (List ℕ)) (text : List ℕ) → AreToldAs (F.state files.old) holds → outcome_of (map string_bytes words.now) holds ≡ prints text

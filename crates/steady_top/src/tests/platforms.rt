@@ -40,3 +40,11 @@ node = [{name = "m", time = "1/999999"}, {name = "x", time = "1/999998"}, {name 
 
 /// A text that ends inside a table, which is no TOML.
 pub const CUT_SHORT: &str = "version = 1\nnode = [{name";
+
+/// A master without a time, and two workers, the second of which can be served in part alone.
+pub const TWO_WORKERS: &str = r#"version = 1
+master = "m"
+targets = ["u", "v"]
+node = [{name = "m"}, {name = "u", time = 3}, {name = "v", time = 2}]
+link = [{from = "m", to = "u", cost = 1}, {from = "m", to = "v", cost = 2}]
+"#;

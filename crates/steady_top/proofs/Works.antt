@@ -1,0 +1,216 @@
+-- What the work of each command comes to, from what was read of its files.
+use Rattle.std.proofs.Common.{◌≡◌, ◌≢◌, ◌∙◌, ℕ, suc, ◌+◌, ◌<◌, ◌≤◌, nat_lt, true, false, cond, List, [], ◌∷◌, ◌++◌, codes, decimal, length, replicate, Option, Some, None, Result, Ok, Err, MatchResult, refl, sym, ap, subst, arith, inl, inr}
+use Rattle.std.proofs.lemmas.Bool.{lt-ltb, le-ltb}
+use Rattle.std.proofs.lemmas.List.{length-replicate, append_assoc}
+use Rattle.std.specs.Result.{IsErr, IsErrAnd}
+use Rattle.std.specs.Fmt.{signed_decimal}
+use Rattle.text_lines.specs.Lines.{line}
+use Rattle.outside_io.specs.Files.{Told, untold, absent, contents, FilesView, MayFail, HasCause}
+use Rattle.outside_io.specs.Faults.{raised}
+use Rattle.outside_io.specs.Reading.{MayHold, MayPass}
+use Rattle.platform_file.specs.declared.fault.Kind.TheVariants.{Text}
+use Rattle.platform_file.specs.Platform.{PlatformView}
+use Rattle.platform_file.specs.Reading.{most_bytes, platform_of, IsFaultOf}
+use Rattle.platform_file.specs.declared.fault.PlatformFault.{PlatformFault}
+use Rattle.platform_file.specs.declared.fault.PlatformFault.TheVariants as fault
+use Rattle.platform_file.specs.declared.fault.TimedFault.{TimedFault}
+use Rattle.platform_file.specs.declared.fault.TimedFault.TheVariants as timed_fault
+use Rattle.platform_file.specs.Ticks.{TimedView, timed_of, IsTimedFault}
+use Rattle.linear_program.specs.Certificates.{CertificateView}
+use Rattle.planner.specs.declared.fault.PlanFault.{PlanFault}
+use Rattle.planner.specs.declared.fault.PlanFault.TheVariants as plans
+use Rattle.planner.specs.Prices.{prices_of}
+use Rattle.dual_checker.specs.Verdicts.{verdict_of}
+use Rattle.dual_checker.specs.declared.verdict.Verdict.TheVariants.{Proves}
+use Rattle.tasking_program.specs.Programme.{tasking_programme}
+use Rattle.steady_top.specs.Refusals.{Reason, limit, not_toml, bad_field, twice_named, unknown, target_is_master, target_twice, self_link, twice_linked, bad_ratio, unit, links_not_yet, pivot, spent, long_certificate, Refusal, usage, refused, cannot_read, no_memory, platform_refusal, timed_refusal, plan_refusal}
+use Rattle.steady_top.specs.Outcomes.{Command, plan, prices, check, first_name, second_name, Outcome, prints, refuses, with_timed, with_platform, with_file, most_pivots, priced, judged, judged_reading, check_of_file, upper_text, work_of}
+use Rattle.steady_top.specs.Answers.{MayBe, ComesTo, IsPlatformOf, IsMade, IsCheckedText, IsFirstFault, IsSecondFault, IsCauseFor}
+use Rattle.steady_top.specs.Planned.{IsPlatformRead, IsFileRefused, IsFileFault, IsPlatformFault, IsCertificateRead, IsCertificateRefused, IsCertificateFault, IsProved, IsJudged}
+
+-- the bytes that were read may be what is told
+pub read_may_be : (told : Told) (bytes : List ℕ) → MayHold told bytes → MayBe told (Some bytes)
+read_may_be untold bytes h = tt
+read_may_be absent bytes h = absurd h
+read_may_be (contents file) bytes h = ap Some h
+
+more_zeros : (most : ℕ) → most < length {A = ℕ} (replicate (suc most) 0)
+more_zeros most = let as_many : length {A = ℕ} (replicate (suc most) 0) ≡ suc most = length-replicate (suc most) 0 in rw as_many (omega arith)
+
+-- a file that may have more bytes than so many
+pub longer : (told : Told) (most : ℕ) → MayPass told most → (bytes : List ℕ) × MayBe told (Some bytes) × (most < length bytes)
+longer untold most h = (replicate (suc most) 0, tt, more_zeros most)
+longer absent most h = absurd h
+longer (contents file) most h = (file, refl, h)
+
+pub longer_is_refused : (next : TimedView → Outcome) (bytes : List ℕ) → most_bytes < length bytes → with_file next bytes ≡ refuses (refused (limit Text (most_bytes + 1)))
+longer_is_refused next bytes h = rw (lt-ltb most_bytes (length bytes) h) refl
+
+pub whole_is_read : (next : TimedView → Outcome) (bytes : List ℕ) (read : Result PlatformView PlatformFault) → length bytes ≤ most_bytes → platform_of bytes ≡ read →
+    with_file next bytes ≡ with_platform next read
+whole_is_read next bytes read h is =
+    let short : nat_lt most_bytes (length bytes) ≡ false = le-ltb most_bytes (length bytes) h in
+    ap (λ long. cond long (refuses (refused (limit Text (most_bytes + 1)))) (with_platform next (platform_of bytes))) short ∙ ap (with_platform next) is
+
+pub read_is_next : (next : TimedView → Outcome) (bytes : List ℕ) (p : PlatformView) (t : TimedView) → length bytes ≤ most_bytes → platform_of bytes ≡ Ok p → timed_of p ≡ Ok t →
+    with_file next bytes ≡ next t
+read_is_next next bytes p t h read in_ticks = whole_is_read next bytes (Ok p) h read ∙ ap (with_timed next) in_ticks
+
+-- the fault of a platform file, or of its ticks, is why it isn't read
+module _ (before after : FilesView) (name bytes : List ℕ) (file : MayBe (before.held name) (Some bytes)) (short : length bytes ≤ most_bytes) where
+  for_reason : (fault : PlatformFault) (refusal : Refusal) (reason : Reason) → platform_of bytes ≡ Err fault → refusal ≡ platform_refusal fault → platform_refusal fault ≡ refused reason →
+      IsPlatformFault before name after refusal
+  for_reason fault refusal reason read is named =
+      rw (is ∙ named) (record { bytes = bytes; file = file; outcome = λ next. whole_is_read next bytes (Err fault) short read ∙ ap refuses named })
+
+  pub fault_is_platform : (fault : PlatformFault) (refusal : Refusal) → IsFaultOf fault (platform_of bytes) → refusal ≡ platform_refusal fault → IsPlatformFault before name after refusal
+  fault_is_platform (fault.Limit kind found) refusal read is = for_reason (fault.Limit kind found) refusal (limit kind found) read is refl
+  fault_is_platform fault.NotToml refusal read is = for_reason fault.NotToml refusal not_toml read is refl
+  fault_is_platform (fault.BadField place) refusal read is = for_reason (fault.BadField place) refusal (bad_field place) read is refl
+  fault_is_platform (fault.TwiceNamed node) refusal read is = for_reason (fault.TwiceNamed node) refusal (twice_named node) read is refl
+  fault_is_platform (fault.Unknown place) refusal read is = for_reason (fault.Unknown place) refusal (unknown place) read is refl
+  fault_is_platform (fault.TargetIsMaster target) refusal read is = for_reason (fault.TargetIsMaster target) refusal (target_is_master target) read is refl
+  fault_is_platform (fault.TargetTwice target) refusal read is = for_reason (fault.TargetTwice target) refusal (target_twice target) read is refl
+  fault_is_platform (fault.SelfLink link) refusal read is = for_reason (fault.SelfLink link) refusal (self_link link) read is refl
+  fault_is_platform (fault.TwiceLinked link) refusal read is = for_reason (fault.TwiceLinked link) refusal (twice_linked link) read is refl
+  fault_is_platform (fault.BadRatio place cause) refusal read is = for_reason (fault.BadRatio place cause) refusal (bad_ratio place cause) read is refl
+  fault_is_platform fault.NoMemory refusal read is = rw is tt
+
+  pub fault_is_timed : (p : PlatformView) (fault : TimedFault) (refusal : Refusal) → platform_of bytes ≡ Ok p → IsTimedFault fault (timed_of p) → refusal ≡ timed_refusal fault →
+      IsPlatformFault before name after refusal
+  fault_is_timed p (timed_fault.Unit left right) refusal read in_ticks is =
+      rw is (record { bytes = bytes; file = file; outcome = λ next. whole_is_read next bytes (Ok p) short read ∙ ap (with_timed next) in_ticks })
+  fault_is_timed p timed_fault.NoMemory refusal read in_ticks is = rw is tt
+
+-- something that may be told
+abbrev chosen : Told → Option (List ℕ)
+chosen untold = None
+chosen absent = None
+chosen (contents file) = Some file
+
+chosen_may_be : (told : Told) → MayBe told (chosen told)
+chosen_may_be untold = tt
+chosen_may_be absent = refl
+chosen_may_be (contents file) = refl
+
+-- what comes of a platform that was read comes of the command
+pub comes_of : (command : Command) (before after : FilesView) (t : TimedView) (second : Option (List ℕ)) (outcome : Outcome) → IsPlatformRead before (first_name command) after t →
+    MayBe (before.held (second_name command)) second → work_of command second t ≡ outcome → ComesTo command before outcome
+comes_of command before after t second outcome read told is = record {
+  first = Some read.platform.bytes;
+  second = second;
+  first_told = read.platform.file;
+  second_told = told;
+  is = read.short (work_of command second) ∙ is;
+}
+
+-- why a platform file isn't read is why the command is refused
+pub platform_fault : (command : Command) (before after : FilesView) (refusal : Refusal) → IsPlatformFault before (first_name command) after refusal → IsCauseFor command before after refusal
+platform_fault command before after usage fault = absurd fault
+platform_fault command before after (refused reason) fault = record {
+  first = Some fault.bytes;
+  second = chosen (before.held (second_name command));
+  first_told = fault.file;
+  second_told = chosen_may_be (before.held (second_name command));
+  is = fault.outcome (work_of command (chosen (before.held (second_name command))));
+}
+platform_fault command before after (cannot_read named) fault =
+    inl (record { is_first = fault.same; cause = subst (λ name. HasCause before name after) (sym fault.same) fault.cause; one_open = fault.one_open })
+platform_fault command before after no_memory fault = tt
+
+-- why there are no prices is why the command is refused
+pub prices_fault : (before middle after : FilesView) (name : List ℕ) (t : TimedView) → IsPlatformRead before name middle t → (fault : PlanFault) (refusal : Refusal) →
+    ((fault ≡ plans.NoMemory → ⊥) → prices_of most_pivots t ≡ Some (Err fault)) → refusal ≡ plan_refusal fault → IsCauseFor (prices name) before after refusal
+prices_fault before middle after name t read (plans.Pivot pivots row column) refusal exact is =
+    rw is (comes_of (prices name) before middle t (Some read.platform.bytes) (refuses (refused (pivot pivots row column))) read read.platform.file (ap priced (exact (λ e. cc))))
+prices_fault before middle after name t read (plans.Spent allowed) refusal exact is =
+    rw is (comes_of (prices name) before middle t (Some read.platform.bytes) (refuses (refused (spent allowed))) read read.platform.file (ap priced (exact (λ e. cc))))
+prices_fault before middle after name t read plans.NoMemory refusal exact is = rw is tt
+
+-- what is told of a name, behind a file that was read
+told_before : (before middle : FilesView) (name : List ℕ) (t : TimedView) (second : List ℕ) (file : Option (List ℕ)) → IsPlatformRead before name middle t → MayBe (middle.held second) file →
+    MayBe (before.held second) file
+told_before before middle name t second file read may = subst (λ told. MayBe told file) (read.held second) may
+
+-- why a certificate isn't read is why the command is refused
+pub certificate_fault : (before middle after : FilesView) (name second : List ℕ) (t : TimedView) → IsPlatformRead before name middle t → (refusal : Refusal) →
+    IsCertificateFault t middle second after refusal → IsCauseFor (check name second) before after refusal
+certificate_fault before middle after name second t read usage fault = absurd fault
+certificate_fault before middle after name second t read (refused reason) fault =
+    comes_of (check name second) before middle t (Some fault.bytes) (refuses (refused reason)) read (told_before before middle name t second (Some fault.bytes) read fault.file) fault.outcome
+certificate_fault before middle after name second t read (cannot_read named) fault =
+    inr (record {
+      first = name;
+      is_check = ap (check name) (sym fault.same);
+      timed = t;
+      platform = read.platform;
+      short = read.short;
+      cause = subst (λ told. MayFail told before.faults after.faults) (read.held named) (subst (λ faults. MayFail (middle.held named) faults after.faults) read.calm (subst (λ name. HasCause middle name after) (sym fault.same) fault.cause));
+      two_opens = fault.one_open ∙ ap (λ opens. raised opens 1) read.one_open;
+    })
+certificate_fault before middle after name second t read no_memory fault = tt
+
+-- what the check of a certificate that was read says is what the command comes to
+module _ (before middle after : FilesView) (name second : List ℕ) (t : TimedView) (c : CertificateView) (read : IsPlatformRead before name middle t) (certificate : IsCertificateRead t middle second after c) where
+  comes_to : (outcome : Outcome) → judged_reading t (Ok c) ≡ outcome → ComesTo (check name second) before outcome
+  comes_to outcome is =
+      comes_of (check name second) before middle t (Some certificate.bytes) outcome read (told_before before middle name t second (Some certificate.bytes) read certificate.file) (certificate.short ∙ is)
+
+  pub proved_is_made : (text : List ℕ) → IsProved t c text → IsMade (check name second) before after text
+  proved_is_made text proved = record {
+    due = comes_to (prints text) (ap (judged t c) proved.proves ∙ ap prints (sym proved.is_line));
+    claim = record {
+      timed = t;
+      platform = read.platform;
+      bytes = certificate.bytes;
+      file = told_before before middle name t second (Some certificate.bytes) read certificate.file;
+      certificate = c;
+      read = certificate.read;
+      proves = proved.proves;
+      rate = proved.rate;
+      is_line = proved.is_line;
+    };
+    calm = certificate.calm ∙ read.calm;
+  }
+
+  pub judged_is_cause : (refusal : Refusal) → IsJudged t c refusal → IsCauseFor (check name second) before after refusal
+  judged_is_cause usage fault = absurd fault
+  judged_is_cause (refused reason) fault = comes_to (refuses (refused reason)) fault
+  judged_is_cause (cannot_read named) fault = absurd fault
+  judged_is_cause no_memory fault = tt
+
+-- what holds of an error holds of the result that has it
+pub of_error : {A E : Type 0} (P : A → Type 0) {Q R : E → Type 0} (r : Result A E) → IsErr r → IsErrAnd r R → ((e : E) → R e → Q e) → MatchResult r P Q
+of_error P (Ok x) bad h f = let none : false ≡ true = bad in cc
+of_error P (Err e) is h f = f e h
+
+-- what holds of a result's value and of its error
+pub both_ways : {A E : Type 0} {P P' : A → Type 0} {Q Q' : E → Type 0} (r : Result A E) → ((x : A) → P x → P' x) → ((e : E) → Q e → Q' e) →
+    MatchResult r P Q → MatchResult r P' Q'
+both_ways (Ok x) f g h = f x h
+both_ways (Err e) f g h = g e h
+
+-- the three parts of the line of a certificate that proves
+pub line_in_parts : (t : TimedView) (c : CertificateView) {start first second third : List ℕ} → start ≡ [] → first ≡ start ++ (codes "upper " ++ signed_decimal c.best) →
+    second ≡ first ++ (codes " tasks per " ++ signed_decimal c.scale) → third ≡ second ++ line (codes " ticks, unit " ++ decimal t.unit) → third ≡ upper_text t c
+line_in_parts t c e f g h =
+    let best = signed_decimal c.best in
+    let scale = signed_decimal c.scale in
+    let ticks = decimal t.unit in
+    h ∙ ap (λ xs. xs ++ line (codes " ticks, unit " ++ ticks)) (g ∙ ap (λ xs. xs ++ (codes " tasks per " ++ scale)) (f ∙ ap (λ xs. xs ++ (codes "upper " ++ best)) e))
+    ∙ append_assoc (codes "upper " ++ best) (codes " tasks per " ++ scale) (line (codes " ticks, unit " ++ ticks))
+    ∙ append_assoc (codes "upper ") best ((codes " tasks per " ++ scale) ++ line (codes " ticks, unit " ++ ticks))
+    ∙ ap (λ xs. codes "upper " ++ (best ++ xs)) (append_assoc (codes " tasks per ") scale (line (codes " ticks, unit " ++ ticks)))
+    ∙ sym (ended best scale ticks)
+  where
+    ended : (best scale ticks : List ℕ) →
+        line (codes "upper " ++ (best ++ (codes " tasks per " ++ (scale ++ (codes " ticks, unit " ++ ticks))))) ≡ codes "upper " ++ (best ++ (codes " tasks per " ++ (scale ++ line (codes " ticks, unit " ++ ticks))))
+    ended best scale ticks =
+        append_assoc (codes "upper ") (best ++ (codes " tasks per " ++ (scale ++ (codes " ticks, unit " ++ ticks)))) (10 ∷ [])
+        ∙ ap (λ xs. codes "upper " ++ xs) (append_assoc best (codes " tasks per " ++ (scale ++ (codes " ticks, unit " ++ ticks))) (10 ∷ []))
+        ∙ ap (λ xs. codes "upper " ++ (best ++ xs)) (append_assoc (codes " tasks per ") (scale ++ (codes " ticks, unit " ++ ticks)) (10 ∷ []))
+        ∙ ap (λ xs. codes "upper " ++ (best ++ (codes " tasks per " ++ xs))) (append_assoc scale (codes " ticks, unit " ++ ticks) (10 ∷ []))
+
+-- a certificate that is too long
+pub long_is_refused : (t : TimedView) (bytes : List ℕ) → most_bytes < length bytes → check_of_file t bytes ≡ refuses (refused long_certificate)
+long_is_refused t bytes h = rw (lt-ltb most_bytes (length bytes) h) refl
