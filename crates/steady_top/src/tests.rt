@@ -268,69 +268,41 @@ fn prints_prices(rt: HostRuntime) -> Result<(), Fail> {
     Ok(())
 }
 
+/// What the program answers to the certificate of two workers, where one text in it is another.
+fn checked(alloc: Global, old: &str, new: &str) -> Result<(Status, String), Fail> {
+    let certificate = PRICES.replace(alloc, old, new)?;
+    answer_to_check(alloc, "check|P|C", TWO_WORKERS, certificate.as_bytes(), &[])
+}
+
 #[test]
-fn checks_certificates(rt: HostRuntime) -> Result<(), Fail> {
+fn lets_certificates_pass(rt: HostRuntime) -> Result<(), Fail> {
     let alloc = rt.alloc();
-    for (old, new, status, written) in [
-        (
-            "end",
-            "end",
-            Status::Done,
-            "upper 4 tasks per 6 ticks, unit 1\n",
-        ),
-        (
-            "best 4",
-            "best 5",
-            Status::Done,
-            "upper 5 tasks per 6 ticks, unit 1\n",
-        ),
-        (
-            "price 2 3",
-            "price 2 2",
-            Status::Refused,
-            "error: certificate: column 2\n",
-        ),
-        (
-            "price 3 0",
-            "price 3 -1",
-            Status::Refused,
-            "error: certificate: price 3 negative\n",
-        ),
-        (
-            "best 4",
-            "best 3",
-            Status::Refused,
-            "error: certificate: value\n",
-        ),
-        (
-            "rows 10",
-            "rows 9",
-            Status::Refused,
-            "error: certificate: line 2\n",
-        ),
-        (
-            "price 7 0",
-            "price 7 00",
-            Status::Refused,
-            "error: certificate: line 12\n",
-        ),
-        (
-            "end\n",
-            "end\n\n",
-            Status::Refused,
-            "error: certificate: line 16\n",
-        ),
+    for (old, new, written) in [
+        ("end", "end", "upper 4 tasks per 6 ticks, unit 1\n"),
+        ("best 4", "best 5", "upper 5 tasks per 6 ticks, unit 1\n"),
     ] {
-        let certificate = PRICES.replace(alloc, old, new)?;
-        let (ended, out) = answer_to_check(
-            alloc,
-            "check|P|C",
-            TWO_WORKERS,
-            certificate.as_bytes(),
-            &[],
-        )?;
-        assert_eq!(rt; ended, status, "{written}");
+        let (ended, out) = checked(alloc, old, new)?;
+        assert_eq!(rt; ended, Status::Done);
         assert_eq!(rt; out.as_str(), written);
+    }
+    Ok(())
+}
+
+#[test]
+fn refuses_certificates(rt: HostRuntime) -> Result<(), Fail> {
+    let alloc = rt.alloc();
+    for (old, new, written) in [
+        ("price 2 3", "price 2 2", "column 2"),
+        ("price 3 0", "price 3 -1", "price 3 negative"),
+        ("best 4", "best 3", "value"),
+        ("rows 10", "rows 9", "line 2"),
+        ("price 7 0", "price 7 00", "line 12"),
+        ("end\n", "end\n\n", "line 16"),
+    ] {
+        let (ended, out) = checked(alloc, old, new)?;
+        assert_eq!(rt; ended, Status::Refused, "{written}");
+        let line = format!(in alloc; "error: certificate: {written}\n")?;
+        assert_eq!(rt; out.as_str(), line.as_str());
     }
     Ok(())
 }
@@ -365,42 +337,19 @@ fn refuses_a_long_certificate(rt: HostRuntime) -> Result<(), Fail> {
 #[test]
 fn reads_the_platform_before_the_certificate(rt: HostRuntime) -> Result<(), Fail> {
     let alloc = rt.alloc();
-    let not_toml = "error: platform: not TOML\n";
     let (none, fourth) = (&[][..], &[3][..]);
-    for (line, platform, failing, status, written) in [
-        (
-            "check|nofile|C",
-            TWO_WORKERS,
-            none,
-            Status::ReadFault,
-            "error: cannot read nofile\n",
-        ),
-        (
-            "check|P|nofile",
-            TWO_WORKERS,
-            none,
-            Status::ReadFault,
-            "error: cannot read nofile\n",
-        ),
-        (
-            "check|P|C",
-            TWO_WORKERS,
-            fourth,
-            Status::ReadFault,
-            "error: cannot read C\n",
-        ),
-        (
-            "check|P|nofile",
-            CUT_SHORT,
-            none,
-            Status::Platform,
-            not_toml,
-        ),
+    for (line, failing, written) in [
+        ("check|nofile|C", none, "error: cannot read nofile\n"),
+        ("check|P|nofile", none, "error: cannot read nofile\n"),
+        ("check|P|C", fourth, "error: cannot read C\n"),
     ] {
-        let (ended, out) = answer_to_check(alloc, line, platform, PRICES.as_bytes(), failing)?;
-        assert_eq!(rt; ended, status, "{written}");
+        let (ended, out) = answer_to_check(alloc, line, TWO_WORKERS, b"", failing)?;
+        assert_eq!(rt; ended, Status::ReadFault);
         assert_eq!(rt; out.as_str(), written);
     }
+    let (ended, out) = answer_to_check(alloc, "check|P|nofile", CUT_SHORT, b"", &[])?;
+    assert_eq!(rt; ended, Status::Platform);
+    assert_eq!(rt; out.as_str(), "error: platform: not TOML\n");
     Ok(())
 }
 
