@@ -30,6 +30,19 @@ fn quotient(cell: i128, divisor: u128) -> i128
     cell / (divisor as i128)
 }
 
+/// The same, without a division where the cell is 0.
+fn sparse_quotient(cell: i128, divisor: u128) -> i128
+    requires some { 0 < divisor }
+    requires fits { divisor < 2 ^ 127 }
+    ensures { result ≡ int_div cell (pos divisor) }
+{
+    if cell == 0 {
+        0
+    } else {
+        quotient(cell, divisor)
+    }
+}
+
 /// The two cells of the pivot's column over their greatest common divisor.
 fn multipliers_of(pivot_cell: i128, cell: i128) -> Multipliers
     requires { pos 0 <ℤ pivot_cell }
@@ -49,7 +62,9 @@ pub fn size_of(row: &[i128]) -> u128
 {
     let mut size = 0;
     for cell in row {
-        size = size.max(cell.unsigned_abs());
+        if *cell != 0 {
+            size = size.max(cell.unsigned_abs());
+        }
     }
     size
 }
@@ -110,13 +125,29 @@ pub fn overflow_in_row(
     overflow_along(row, pivot_row, &by, column)
 }
 
-/// The combination of two cells, where it fits.
-fn combination(by: &Multipliers, cell: i128, pivot_cell: i128) -> i128
+/// The difference of two products, where it fits.
+fn difference_of_products(by: &Multipliers, cell: i128, pivot_cell: i128) -> i128
     requires { IsSome (fitting_combination by.now.own cell by.now.pivot pivot_cell) }
     ensures value { result ≡ by.now.own *ℤ cell -ℤ by.now.pivot *ℤ pivot_cell }
     ensures small { nat_abs result < 2 ^ 127 }
 {
     by.own * cell - by.pivot * pivot_cell
+}
+
+/// Makes a cell its combination with the one below it in the pivot's row. Most cells of a sparse programme are 0 in both, and stay.
+fn combine_at(row: &mut [i128], pivot_row: &[i128], by: &Multipliers, j: usize)
+    requires same { length row.old ≡ length pivot_row.now }
+    requires within { j < length row.old }
+    requires fits { IsSome (fitting_combination by.now.own (entry row.old j) by.now.pivot (entry pivot_row.now j)) }
+    ensures length { length row.new ≡ length row.old }
+    ensures cell { entry row.new j ≡ by.now.own *ℤ entry row.old j -ℤ by.now.pivot *ℤ entry pivot_row.now j }
+    ensures small { nat_abs (entry row.new j) < 2 ^ 127 }
+    ensures beside { (k : ℕ) → k ≢ j → entry row.new k ≡ entry row.old k }
+{
+    let (cell, pivot_cell) = (row[j], pivot_row[j]);
+    if cell != 0 || pivot_cell != 0 {
+        row[j] = difference_of_products(by, cell, pivot_cell);
+    }
 }
 
 /// Makes a row its combination with the pivot's row, which is 0 in the pivot's column.
@@ -129,11 +160,23 @@ fn combine(row: &mut [i128], pivot_row: &[i128], by: &Multipliers, column: u32)
     ensures small { (j : ℕ) → j < length row.old → nat_abs (entry row.new j) < 2 ^ 127 }
 {
     for j in 0..row.len() {
-        row[j] = if j == column as usize {
-            0
+        if j == column as usize {
+            row[j] = 0;
         } else {
-            combination(by, row[j], pivot_row[j])
-        };
+            combine_at(row, pivot_row, by, j);
+        }
+    }
+}
+
+/// The greatest common divisor of what was found so far and a cell, without a division where the cell is 0, and with one where it is a
+/// multiple.
+fn common_divisor(divisor: u128, size: u128) -> u128
+    ensures { result ≡ gcd_of divisor size }
+{
+    if size == 0 {
+        divisor
+    } else {
+        gcd(size, divisor)
     }
 }
 
@@ -145,7 +188,7 @@ fn divisor_of(row: &[i128]) -> u128
 {
     let mut divisor = 0;
     for cell in row {
-        divisor = gcd(divisor, cell.unsigned_abs());
+        divisor = common_divisor(divisor, cell.unsigned_abs());
         if divisor == 1 {
             return 1;
         }
@@ -161,7 +204,7 @@ fn divide(row: &mut [i128], divisor: u128)
     ensures divided { (j : ℕ) → j < length row.old → entry row.new j ≡ int_div (entry row.old j) (pos divisor) }
 {
     for cell in row.iter_mut() {
-        *cell = quotient(*cell, divisor);
+        *cell = sparse_quotient(*cell, divisor);
     }
 }
 

@@ -1,6 +1,4 @@
-use Rattle.std.proofs.Common.{rules, ◌≡◌, ◌≢◌, ◌<◌, ◌^◌, pos, nat_abs, ◌-ℤ◌, ◌*ℤ◌, length, length-set, slice_set, SFits, arith, refl, sym, ◌∙◌, inl, inr}
-use Rattle.std.specs.Int.{w128}
-use Rattle.std.proofs.lemmas.Int.{to_z-of_z}
+use Rattle.std.proofs.Common.{rules, ◌≡◌, ◌≢◌, ℕ, ◌<◌, ◌^◌, pos, nat_abs, ◌-ℤ◌, ◌*ℤ◌, slice_set, arith, refl, sym, ◌∙◌, ap, inl, inr}
 use Rattle.std.proofs.lemmas.Bool.{cases_eq}
 use Rattle.dense_tableau.specs.Flat.{entry}
 use Rattle.dense_tableau.proofs.Entries.{entry_set, entry_beside}
@@ -13,48 +11,44 @@ loop-j-preserved c =
     let row = c.loop-j.row in
     let j = c.loop-j.j in
     let made = c.if-j-column.row in
-    let within : j < length row = omega (arith, inv.length, c.loop-j-test.true) in
-    let there : entry (slice_set row j made) j ≡ made = entry_set row j made within in
-    let zero_here : j ≡ c.args.column → made ≡ pos 0 =
+    let beside : (k : ℕ) → k ≢ j → entry made k ≡ entry row k =
+    λ k apart. elim c.if-j-column.branch [
+      | then-j-column w ↦ let is : made ≡ slice_set row j (pos 0) = search rules in ap (λ r. entry r k) is ∙ entry_beside row j k (pos 0) apart
+      | else-j-column w ↦ let is : made ≡ w.combine_at.new.row = search rules in ap (λ r. entry r k) is ∙ w.combine_at.ensures.beside k apart
+    ] in
+    let zero_here : j ≡ c.args.column → entry made j ≡ pos 0 =
     λ same. elim c.if-j-column.branch [
-      | then-j-column w ↦ sym c.if-j-column.row-is ∙ w.row-is
+      | then-j-column w ↦ let is : made ≡ slice_set row j (pos 0) = search rules in ap (λ r. entry r j) is ∙ entry_set row j (pos 0) (search rules)
       | else-j-column w ↦ absurd (w.if-j-column.false same)
     ] in
-    let combined_here : j ≢ c.args.column → made ≡ c.args.by.now.own *ℤ entry c.args.row.now j -ℤ c.args.by.now.pivot *ℤ entry c.args.pivot_row.now j =
+    let combined_here : j ≢ c.args.column → entry made j ≡ c.args.by.now.own *ℤ entry c.args.row.now j -ℤ c.args.by.now.pivot *ℤ entry c.args.pivot_row.now j =
     λ apart. elim c.if-j-column.branch [
       | then-j-column w ↦ absurd (apart w.if-j-column.true)
       | else-j-column w ↦
-          let fits : SFits w128 w.combination.result = search rules in
-          let cell : SFits w128 (entry row j) = search rules in
-          let pivot_cell : SFits w128 (entry c.args.pivot_row.now j) = search rules in
-          sym c.if-j-column.row-is ∙ w.row-is ∙ to_z-of_z _ _ fits ∙ w.combination.ensures.value
-          ∙ rw (to_z-of_z _ _ cell, to_z-of_z _ _ pivot_cell, inv.left j (omega arith)) refl
+          let is : made ≡ w.combine_at.new.row = search rules in
+          ap (λ r. entry r j) is ∙ w.combine_at.ensures.cell ∙ rw (inv.left j (omega arith)) refl
     ] in
-    let small_here : nat_abs made < 2 ^ 127 =
+    let small_here : nat_abs (entry made j) < 2 ^ 127 =
     elim c.if-j-column.branch [
-      | then-j-column w ↦ let none : made ≡ pos 0 = sym c.if-j-column.row-is ∙ w.row-is in rw none (omega arith)
-      | else-j-column w ↦
-          let fits : SFits w128 w.combination.result = search rules in
-          let same : made ≡ w.combination.result = sym c.if-j-column.row-is ∙ w.row-is ∙ to_z-of_z _ _ fits in
-          rw same w.combination.ensures.small
+      | then-j-column w ↦ let is : made ≡ slice_set row j (pos 0) = search rules in let none : entry made j ≡ pos 0 = ap (λ r. entry r j) is ∙ entry_set row j (pos 0) (search rules) in rw none (omega arith)
+      | else-j-column w ↦ let is : made ≡ w.combine_at.new.row = search rules in rw is w.combine_at.ensures.small
     ] in
-    rw c.if-j-column.row-is
     record {
-      length = length-set row j made ∙ inv.length;
-      left = λ k l. entry_beside row j k made (let apart : k ≢ j = omega arith in apart) ∙ inv.left k (omega arith);
+      length = c.if-j-column.auto.row ∙ inv.length;
+      left = λ k l. beside k (let apart : k ≢ j = omega arith in apart) ∙ inv.left k (omega arith);
       cells = λ k l apart.
           elim (cases_eq k j) [
-            | inl same ↦ rw same (there ∙ combined_here (λ e. apart (same ∙ e)))
-            | inr other ↦ entry_beside row j k made other ∙ inv.cells k (omega arith) apart
+            | inl same ↦ rw same (combined_here (λ e. apart (same ∙ e)))
+            | inr other ↦ beside k other ∙ inv.cells k (omega arith) apart
           ];
       zero = λ l.
           elim (cases_eq c.args.column j) [
-            | inl same ↦ rw same (there ∙ zero_here (sym same))
-            | inr other ↦ entry_beside row j c.args.column made other ∙ inv.zero (omega arith)
+            | inl same ↦ rw same (zero_here (sym same))
+            | inr other ↦ beside c.args.column other ∙ inv.zero (omega arith)
           ];
       small = λ k l.
           elim (cases_eq k j) [
-            | inl same ↦ rw (same, there) small_here
-            | inr other ↦ rw (entry_beside row j k made other) (inv.small k (omega arith))
+            | inl same ↦ rw same small_here
+            | inr other ↦ rw (beside k other) (inv.small k (omega arith))
           ];
     }

@@ -2,7 +2,7 @@ use Rattle.std.proofs.Common.{rules, ◌-ℤ◌, ◌*ℤ◌, SFits}
 use Rattle.std.specs.Int.{w128}
 use Rattle.std.proofs.lemmas.Int.{to_z-of_z, fits_signed_from_abs}
 use Rattle.linear_program.proofs.Combinations.{combination_parts}
-use Rattle.dense_tableau.proofs.row.combination.Goals as goal
+use Rattle.dense_tableau.proofs.row.difference_of_products.Goals as goal
 
 pub overflow_sub-result : goal.overflow_sub-result
 overflow_sub-result c =
