@@ -114,7 +114,7 @@ stays share b max h =
     omega (arith, bound, less)
 
 -- some greatest common divisor exists, and the searched one is it
-searched_is_gcd : (a b : ℕ) → IsGcd a b (gcd_of a b)
+pub searched_is_gcd : (a b : ℕ) → IsGcd a b (gcd_of a b)
 searched_is_gcd a b = let s = scaling (a + b) a b 1 (omega arith) in subst (IsGcd a b) (gcd_of_is a b s.divisor s.plain) s.plain
 
 -- the multiple by the searched divisor

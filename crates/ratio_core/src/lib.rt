@@ -8,5 +8,5 @@ mod tests;
 mod text;
 
 pub use comparing::cmp_parts;
-pub use ratio::{Ratio, gcd, lcm_within, multiples_are_least};
+pub use ratio::{Ratio, gcd, lcm_within, multiples_are_least, product_within};
 pub use text::{RatioFault, parse_ratio};

@@ -1,6 +1,6 @@
 //! Fractions in lowest terms.
 
-ghost use Rattle.std.specs.Prelude.{◌≡◌, ℕ, ◌≤◌, Some, None, cond, nat_le};
+ghost use Rattle.std.specs.Prelude.{◌≡◌, ℕ, ◌*◌, ◌≤◌, Some, None, cond, nat_le};
 ghost use Rattle.std.specs.Int.{IsGcd};
 ghost use Rattle.ratio_core.specs.Fraction.{reduced, gcd_of};
 ghost use Rattle.ratio_core.specs.Multiples.{IsLeastCommonMultiple, lcm_of};
@@ -84,6 +84,24 @@ impl Ratio {
         ensures at_least_one { 1 ≤ self.now.den }
     {
         self.den
+    }
+}
+
+/// The fraction `a * b / den` in lowest terms, where its numerator is at most `max`, also where the product passes 128 bits.
+///
+/// Takes two greatest common divisors and four divisions.
+pub fn product_within(a: u128, b: u128, den: u128, max: u128) -> Option<Ratio>
+    requires { 1 ≤ den }
+    ensures { result ≡ cond (nat_le (reduced (a * b) den).num max) (Some (reduced (a * b) den)) None }
+{
+    let first = Ratio::new(a, den);
+    let second = Ratio::new(b, first.den());
+    let num = first.num().checked_mul(second.num())?;
+    if num <= max {
+        let den = second.den();
+        Some(Ratio { num, den })
+    } else {
+        None
     }
 }
 

@@ -1,4 +1,6 @@
-use crate::{Ratio, RatioFault, cmp_parts, gcd, lcm_within, multiples_are_least, parse_ratio};
+use crate::{
+    Ratio, RatioFault, cmp_parts, gcd, lcm_within, multiples_are_least, parse_ratio, product_within,
+};
 use std::cmp::Ordering;
 
 #[test]
@@ -43,6 +45,22 @@ fn finds_least_common_multiples(rt: HostRuntime) {
         (u128::MAX, 2, u128::MAX, None),
     ] {
         assert_eq!(rt; lcm_within(a, b, max), multiple, "{a} and {b} within {max}");
+    }
+}
+
+#[test]
+fn multiplies_within_a_bound(rt: HostRuntime) {
+    let most = u128::MAX;
+    for (a, b, den, max, product) in [
+        (4, 6, 8, 3, Some((3, 1))),
+        (4, 6, 8, 2, None),
+        (5, 3, 20, most, Some((3, 4))),
+        (0, 7, 9, 0, Some((0, 1))),
+        (most, 6, most, 6, Some((6, 1))),
+        (most, most, 1, most, None),
+    ] {
+        let found = product_within(a, b, den, max).map(|ratio| (ratio.num(), ratio.den()));
+        assert_eq!(rt; found, product, "{a} times {b} over {den}");
     }
 }
 

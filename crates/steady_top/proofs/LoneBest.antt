@@ -13,8 +13,8 @@ use Rattle.schedule_model.specs.Operations.{start_of, end_of, time_of, computes_
 use Rattle.schedule_model.specs.Validity.{IsInRange, KeepsOwn, IsValid, completed}
 use Rattle.schedule_model.specs.Throughput.{compute_ticks}
 use Rattle.steady_top.specs.LoneTables.{uses_links, busy_table, idle_table}
-use Rattle.steady_top.specs.TableSchedules.{table_schedule}
-use Rattle.steady_top.specs.Best.{IsBest}
+use Rattle.period_table.specs.TableSchedules.{table_schedule}
+use Rattle.period_table.specs.Best.{IsBest}
 use Rattle.steady_top.proofs.LoneRate.{busy_upper, idle_upper}
 use Rattle.steady_top.proofs.LoneFits.{busy_fits, idle_fits}
 use Rattle.steady_top.proofs.LoneSchedules.{computes_from, lone_schedule, idle_schedule, length_computes, computation_at, all_computes, count_none, count_every, count_same, open_at, at_most_one}

@@ -10,7 +10,7 @@ use Rattle.platform_file.specs.Platform.{master_of}
 use Rattle.platform_file.specs.Ticks.{TimedView}
 use Rattle.schedule_model.specs.declared.schedule.Series.TheVariants.{Tasking}
 use Rattle.steady_top.specs.LoneTables.{lone_route, idle_slot, busy_table, idle_table}
-use Rattle.steady_top.specs.Tables.{IsRoute, IsSlot, IsPiece, Fits}
+use Rattle.period_table.specs.Tables.{IsRoute, IsSlot, IsPiece, Fits}
 
 none_distinct : IsDistinct nat_eq []
 unfolding IsDistinct

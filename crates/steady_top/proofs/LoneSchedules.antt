@@ -11,7 +11,7 @@ use Rattle.schedule_model.specs.declared.schedule.Op.TheVariants.{Compute}
 use Rattle.schedule_model.specs.declared.schedule.Series.TheVariants.{Tasking}
 use Rattle.schedule_model.specs.Operations.{start_of, time_of}
 use Rattle.steady_top.specs.LoneTables.{idle_table, busy_table}
-use Rattle.steady_top.specs.TableSchedules.{Placed, compute_at, ops_below, period_ops, in_order, put_in_order, table_schedule}
+use Rattle.period_table.specs.TableSchedules.{Placed, compute_at, ops_below, period_ops, in_order, put_in_order, table_schedule}
 
 -- k computations at a node, from the one numbered i on
 abbrev pub placed_from : ℕ → ℕ → ℕ → ℕ → List Placed

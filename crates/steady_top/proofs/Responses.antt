@@ -3,12 +3,11 @@ use Rattle.std.proofs.Common.{◌≡◌, ◌∙◌, ℕ, List, Option, Some, Non
 use Rattle.outside_io.specs.Faults.{Rose}
 use Rattle.outside_io.specs.Files.{Told, untold, absent, contents, FilesView, MayFail}
 use Rattle.outside_io.specs.Sinks.{SinkView}
-use Rattle.platform_file.specs.Ticks.{TimedView}
 use Rattle.steady_top.specs.declared.status.Status.{Status}
 use Rattle.steady_top.specs.declared.status.Status.TheVariants as status
 use Rattle.steady_top.specs.Refusals.{Reason, limit, not_toml, bad_field, twice_named, unknown, target_is_master, target_twice, self_link, twice_linked, bad_ratio, unit, links_not_yet, pivot, spent, long_certificate, certificate_line, negative_price, uncovered_column, passed_value, check_overflow, Refusal, usage, refused, cannot_read, no_memory, reason_status, status_of, error_line}
-use Rattle.steady_top.specs.Outcomes.{Command, plan, prices, check, first_name, second_name, command_of, Outcome, prints, refuses, check_of_name, work_of, outcome_for, outcome_of_command, outcome_of}
-use Rattle.steady_top.specs.Answers.{MayBe, IsToldAs, AreToldAs, ComesTo, IsFirstFault, IsSecondFault, IsCauseFor, IsOfCommand, IsCause, IsPrinted, IsRefused, IsRefusedWith, IsCutShort, IsResponse}
+use Rattle.steady_top.specs.Outcomes.{Command, check, first_name, second_name, command_of, Outcome, prints, refuses, check_of_name, outcome_for, outcome_of_command, outcome_of}
+use Rattle.steady_top.specs.Answers.{MayBe, IsToldAs, AreToldAs, ComesTo, IsSecondFault, IsCauseFor, IsCause, IsPrinted, IsRefused, IsRefusedWith, IsCutShort, IsResponse}
 
 -- the statuses of refusals of what was read
 abbrev pub IsOfReason : Status → Type 0

@@ -1,5 +1,5 @@
 -- What the work of each command comes to, from what was read of its files.
-use Rattle.std.proofs.Common.{◌≡◌, ◌≢◌, ◌∙◌, ℕ, suc, ◌+◌, ◌<◌, ◌≤◌, nat_lt, true, false, cond, List, [], ◌∷◌, ◌++◌, codes, decimal, length, replicate, Option, Some, None, Result, Ok, Err, MatchResult, refl, sym, ap, subst, arith, inl, inr}
+use Rattle.std.proofs.Common.{◌≡◌, ◌∙◌, ℕ, suc, ◌+◌, ◌<◌, ◌≤◌, nat_lt, true, false, cond, List, [], ◌∷◌, ◌++◌, codes, decimal, length, replicate, Option, Some, None, Result, Ok, Err, MatchResult, refl, sym, ap, subst, arith, inl, inr}
 use Rattle.std.proofs.lemmas.Bool.{lt-ltb, le-ltb}
 use Rattle.std.proofs.lemmas.List.{length-replicate, append_assoc}
 use Rattle.std.specs.Result.{IsErr, IsErrAnd}
@@ -20,13 +20,10 @@ use Rattle.linear_program.specs.Certificates.{CertificateView}
 use Rattle.planner.specs.declared.fault.PlanFault.{PlanFault}
 use Rattle.planner.specs.declared.fault.PlanFault.TheVariants as plans
 use Rattle.planner.specs.Prices.{prices_of}
-use Rattle.dual_checker.specs.Verdicts.{verdict_of}
-use Rattle.dual_checker.specs.declared.verdict.Verdict.TheVariants.{Proves}
-use Rattle.tasking_program.specs.Programme.{tasking_programme}
-use Rattle.steady_top.specs.Refusals.{Reason, limit, not_toml, bad_field, twice_named, unknown, target_is_master, target_twice, self_link, twice_linked, bad_ratio, unit, links_not_yet, pivot, spent, long_certificate, Refusal, usage, refused, cannot_read, no_memory, platform_refusal, timed_refusal, plan_refusal}
-use Rattle.steady_top.specs.Outcomes.{Command, plan, prices, check, first_name, second_name, Outcome, prints, refuses, with_timed, with_platform, with_file, most_pivots, priced, judged, judged_reading, check_of_file, upper_text, work_of}
-use Rattle.steady_top.specs.Answers.{MayBe, ComesTo, IsPlatformOf, IsMade, IsCheckedText, IsFirstFault, IsSecondFault, IsCauseFor}
-use Rattle.steady_top.specs.Planned.{IsPlatformRead, IsFileRefused, IsFileFault, IsPlatformFault, IsCertificateRead, IsCertificateRefused, IsCertificateFault, IsProved, IsJudged}
+use Rattle.steady_top.specs.Refusals.{Reason, limit, not_toml, bad_field, twice_named, unknown, target_is_master, target_twice, self_link, twice_linked, bad_ratio, pivot, spent, long_certificate, Refusal, usage, refused, cannot_read, no_memory, platform_refusal, timed_refusal, plan_refusal}
+use Rattle.steady_top.specs.Outcomes.{Command, prices, check, first_name, second_name, Outcome, prints, refuses, with_timed, with_platform, with_file, most_pivots, priced, judged, judged_reading, check_of_file, upper_text, work_of}
+use Rattle.steady_top.specs.Answers.{MayBe, ComesTo, IsMade, IsCauseFor}
+use Rattle.steady_top.specs.Planned.{IsPlatformRead, IsPlatformFault, IsCertificateRead, IsCertificateFault, IsProved, IsJudged}
 
 -- the bytes that were read may be what is told
 pub read_may_be : (told : Told) (bytes : List ℕ) → MayHold told bytes → MayBe told (Some bytes)

@@ -17,11 +17,11 @@ use Rattle.dual_checker.specs.Verdicts.{verdict_of}
 use Rattle.planner.specs.Prices.{prices_of, IsBestCertificate}
 use Rattle.steady_top.specs.declared.status.Status.{Status}
 use Rattle.steady_top.specs.declared.status.Status.TheVariants as status
-use Rattle.steady_top.specs.declared.table.Table.{Table}
-use Rattle.steady_top.specs.Best.{IsBest}
-use Rattle.steady_top.specs.PlanText.{plan_text}
+use Rattle.period_table.specs.declared.table.Table.{Table}
+use Rattle.period_table.specs.Best.{IsBest}
+use Rattle.plan_text.specs.Texts.{plan_text}
 use Rattle.steady_top.specs.Refusals.{Reason, Refusal, usage, refused, cannot_read, no_memory, reason_status, status_of, error_line}
-use Rattle.steady_top.specs.Outcomes.{Command, plan, prices, check, first_name, second_name, command_of, most_pivots, upper_text, Outcome, prints, refuses, with_file, outcome_for, outcome_of}
+use Rattle.steady_top.specs.Outcomes.{Command, plan, prices, check, first_name, second_name, command_of, most_pivots, upper_text, Outcome, prints, refuses, with_file, outcome_for}
 
 -- this may be what a name holds of which that is told
 abbrev pub MayBe : Told → Option (List ℕ) → Type 0

@@ -1,9 +1,4 @@
-pub mod Lanes
-pub mod TableSchedules
-pub mod Tables
-pub mod Best
 pub mod LoneTables
-pub mod PlanText
 pub mod Refusals
 pub mod Outcomes
 pub mod Answers

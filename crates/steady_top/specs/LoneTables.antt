@@ -3,9 +3,9 @@ use Rattle.std.specs.Prelude.{ℕ, Bool, [], ◌∷◌, Option, Some, None, slic
 use Rattle.std.specs.List.{list_any}
 use Rattle.platform_file.specs.Platform.{PlatformView, is_used, master_of}
 use Rattle.platform_file.specs.Ticks.{TimedView}
-use Rattle.steady_top.specs.declared.table.Table.{Table}
+use Rattle.period_table.specs.declared.table.Table.{Table}
 use Rattle.flow_routes.specs.declared.flow.Route.{Route}
-use Rattle.steady_top.specs.declared.table.Slot.{Slot}
+use Rattle.period_table.specs.declared.table.Slot.{Slot}
 
 -- some link can be of use to a plan
 abbrev pub uses_links : PlatformView → Bool

@@ -21,7 +21,7 @@ use Rattle.planner.specs.declared.fault.PlanFault.{PlanFault}
 use Rattle.planner.specs.Prices.{prices_of}
 use Rattle.text_lines.specs.Lines.{line}
 use Rattle.steady_top.specs.LoneTables.{uses_links, lone_table}
-use Rattle.steady_top.specs.PlanText.{plan_text}
+use Rattle.plan_text.specs.Texts.{plan_text}
 use Rattle.steady_top.specs.Refusals.{Refusal, usage, refused, limit, links_not_yet, long_certificate, certificate_line, negative_price, uncovered_column, passed_value, check_overflow, cannot_read, no_memory, platform_refusal, timed_refusal, plan_refusal}
 
 -- `plan FILE`, `prices FILE` or `check FILE CERTIFICATE`

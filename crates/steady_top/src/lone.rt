@@ -3,12 +3,12 @@
 ghost use Rattle.std.specs.Prelude.{◌≡◌, ◌<◌, ◌^◌, ◌∷◌, [], length, false, IfOk};
 ghost use Rattle.platform_file.specs.Platform.{is_used};
 ghost use Rattle.schedule_model.specs.declared.schedule.Series.{Series};
-ghost use Rattle.steady_top.specs.Best.{IsBest};
+ghost use Rattle.period_table.specs.Best.{IsBest};
 ghost use Rattle.steady_top.specs.LoneTables.{uses_links, idle_slot, idle_table, busy_table, lone_table};
 
-use crate::table::{Slot, Table};
 use flow_routes::Route;
 use listed::{Listed, NoMemory};
+use period_table::{Slot, Table};
 use platform_file::{Link, Platform, Timed};
 use schedule_model::ports_have_time;
 use std::alloc::Global;

@@ -11,11 +11,11 @@ ghost use Rattle.steady_top.specs.Planned.{IsPlatformRead, IsPlatformFault, IsCe
 
 use crate::fault::TopFault;
 use crate::lone::{lone_master_table, uses_links};
-use crate::plan_text::print_plan;
 use dual_checker::{CertificateFault, Verdict, print_certificate, read_certificate};
 use linear_program::{Certificate, Lp};
 use listed::NoMemory;
 use outside_io::{Files, ReadEnd, read_whole};
+use plan_text::print_plan;
 use platform_file::{Kind, MOST_BYTES, Timed, read_platform, timed};
 use schedule_model::Series;
 use std::alloc::Global;
@@ -58,7 +58,7 @@ pub fn plan<'a, F: Files>(
         return Err(TopFault::LinksNotYet);
     }
     let table = lone_master_table(alloc, &timed)?;
-    Ok(print_plan(alloc, &timed, &table)?)
+    Ok(print_plan(alloc, &timed, Series::Tasking, &table)?)
 }
 
 /// The certificate of the best rate of the platform in the named file.

@@ -1,9 +1,9 @@
 use Rattle.std.proofs.Common.{◌≡◌, ◌∙◌, Some, None, slice_index_or, sym}
 use Rattle.platform_file.specs.Platform.{master_of}
 use Rattle.schedule_model.specs.declared.schedule.Series.TheVariants.{Tasking}
-use Rattle.steady_top.specs.declared.table.Table.{Table}
+use Rattle.period_table.specs.declared.table.Table.{Table}
 use Rattle.steady_top.specs.LoneTables.{lone_table}
-use Rattle.steady_top.specs.Best.{IsBest}
+use Rattle.period_table.specs.Best.{IsBest}
 use Rattle.steady_top.proofs.LoneBest.{busy_best, idle_best}
 use Rattle.steady_top.proofs.LonePlans.{idle, if_ok}
 use Rattle.steady_top.proofs.lone.lone_master_table.Goals as goal

@@ -1,4 +1,4 @@
-use Rattle.std.proofs.Common.{◌≡◌, sym, subst}
+use Rattle.std.proofs.Common.{sym, subst}
 use Rattle.steady_top.specs.Faults.{refusal_of}
 use Rattle.steady_top.specs.Outcomes.{check}
 use Rattle.steady_top.specs.Answers.{IsCauseFor}

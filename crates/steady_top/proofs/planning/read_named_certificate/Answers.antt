@@ -1,4 +1,3 @@
-use Rattle.std.proofs.Common.{◌≡◌, ◌∙◌, ap, sym}
 use Rattle.platform_file.specs.Reading.{most_bytes}
 use Rattle.steady_top.proofs.Works.{longer, long_is_refused}
 use Rattle.steady_top.proofs.planning.read_named_certificate.Goals as goal

@@ -1,7 +1,6 @@
-use Rattle.std.proofs.Common.{◌≡◌, ◌∙◌, ap, sym}
 use Rattle.platform_file.specs.Reading.{most_bytes}
 use Rattle.steady_top.specs.Faults.{refusal_of}
-use Rattle.steady_top.proofs.Works.{read_may_be, longer, longer_is_refused, read_is_next, fault_is_platform, fault_is_timed, of_error}
+use Rattle.steady_top.proofs.Works.{read_may_be, longer, longer_is_refused, read_is_next, fault_is_platform, of_error}
 use Rattle.steady_top.proofs.planning.read_timed.Goals as goal
 
 pub returns-in-Err-Longer : goal.returns-in-Err-Longer

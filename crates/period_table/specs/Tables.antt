@@ -1,4 +1,4 @@
--- Which tables fit a platform. Source: this project; the periodic schedules are those of Beaumont, Legrand and Robert.
+-- Which tables fit a platform, and which leave its ports free in time. Source: this project; the periodic schedules are those of Beaumont, Legrand and Robert.
 use Rattle.std.specs.Prelude.{◌≡◌, ℕ, ◌*◌, ◌^◌, ◌<◌, ◌≤◌, true, false, List, [], ◌∷◌, length, map, max, All, None, IsSome, cond, nat_eq, slice_index, slice_index_or, sum_by}
 use Rattle.std.specs.List.{IsDistinct}
 use Rattle.std.specs.List.Sorted.{IsStrictlyIncreasing}
@@ -7,12 +7,13 @@ use Rattle.platform_file.specs.Platform.{is_master}
 use Rattle.platform_file.specs.Ticks.{TimedView}
 use Rattle.schedule_model.specs.declared.schedule.Series.{Series}
 use Rattle.schedule_model.specs.declared.schedule.Series.TheVariants.{Tasking, Scatter}
-use Rattle.schedule_model.specs.Operations.{sender_of, receiver_of}
-use Rattle.steady_top.specs.declared.table.Table.{Table}
+use Rattle.schedule_model.specs.Operations.{sender_of, receiver_of, cost_of, time_of}
+use Rattle.period_table.specs.declared.table.Table.{Table}
 use Rattle.flow_routes.specs.declared.flow.Route.{Route}
-use Rattle.steady_top.specs.declared.table.Slot.{Slot}
-use Rattle.steady_top.specs.declared.table.Piece.{Piece}
-use Rattle.steady_top.specs.Lanes.{LaneAt, lanes_of, lane_at}
+use Rattle.period_table.specs.declared.table.Slot.{Slot}
+use Rattle.period_table.specs.declared.table.Piece.{Piece}
+use Rattle.period_table.specs.Lanes.{LaneAt, lanes_of, lane_at}
+use Rattle.period_table.specs.TableSchedules.{tasks_over, tasks_at}
 
 -- where a walk over some links to an end begins
 abbrev pub first_node : TimedView → List ℕ → ℕ → ℕ
@@ -86,3 +87,21 @@ pub record Fits (t : TimedView) (series : Series) (table : Table) : Type 0 where
   pub moved : (lane : ℕ) → lane < length (lanes_of table.routes) → moved_over lane table.slots ≡ (lane_at (lanes_of table.routes) lane).count
   pub rate_num : (reduced (table.tasks * t.unit) table.period).num ≤ 2 ^ 127
   pub rate_den : (reduced (table.tasks * t.unit) table.period).den ≤ 2 ^ 127
+
+-- in the slot each link has time for its tasks, and no two links meet at a sender or at a receiver
+pub record IsMatching (t : TimedView) (lanes : List LaneAt) (slot : Slot) : Type 0 where
+  pub in_time : (link : ℕ) → tasks_over lanes link slot.pieces * cost_of t link ≤ slot.duration
+  pub senders : All (λ p. All (λ q. sender_of t (lane_at lanes p.lane).link ≡ sender_of t (lane_at lanes q.lane).link →
+      (lane_at lanes q.lane).link ≡ (lane_at lanes p.lane).link) slot.pieces) slot.pieces
+  pub receivers : All (λ p. All (λ q. receiver_of t (lane_at lanes p.lane).link ≡ receiver_of t (lane_at lanes q.lane).link →
+      (lane_at lanes q.lane).link ≡ (lane_at lanes p.lane).link) slot.pieces) slot.pieces
+
+-- each node has time for its computations
+abbrev pub HasTime : TimedView → Series → Table → Type 0
+HasTime t Tasking table = (node : ℕ) → tasks_at node table.routes * time_of t node ≤ table.period
+HasTime t Scatter table = Unit {0}
+
+-- no port and no processor is needed for longer than it is there
+pub record KeepsPorts (t : TimedView) (series : Series) (table : Table) : Type 0 where
+  pub slots : All (IsMatching t (lanes_of table.routes)) table.slots
+  pub processors : HasTime t series table

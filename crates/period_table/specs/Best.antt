@@ -4,9 +4,9 @@ use Rattle.platform_file.specs.Ticks.{TimedView}
 use Rattle.schedule_model.specs.declared.schedule.Series.{Series}
 use Rattle.schedule_model.specs.Validity.{IsValid, completed}
 use Rattle.schedule_model.specs.Throughput.{IsUpperRate}
-use Rattle.steady_top.specs.declared.table.Table.{Table}
-use Rattle.steady_top.specs.Tables.{Fits}
-use Rattle.steady_top.specs.TableSchedules.{table_schedule}
+use Rattle.period_table.specs.declared.table.Table.{Table}
+use Rattle.period_table.specs.Tables.{Fits}
+use Rattle.period_table.specs.TableSchedules.{table_schedule}
 
 -- the table's rate is an upper rate, and its schedules reach it but for the depth
 pub record IsBest (t : TimedView) (series : Series) (table : Table) : Type 0 where

@@ -10,11 +10,11 @@ use Rattle.schedule_model.specs.declared.schedule.Op.TheVariants.{Send, Compute}
 use Rattle.schedule_model.specs.declared.schedule.Series.{Series}
 use Rattle.schedule_model.specs.declared.schedule.Series.TheVariants.{Tasking, Scatter}
 use Rattle.schedule_model.specs.declared.schedule.Schedule.{Schedule}
-use Rattle.steady_top.specs.declared.table.Table.{Table}
+use Rattle.period_table.specs.declared.table.Table.{Table}
 use Rattle.flow_routes.specs.declared.flow.Route.{Route}
-use Rattle.steady_top.specs.declared.table.Slot.{Slot}
-use Rattle.steady_top.specs.declared.table.Piece.{Piece}
-use Rattle.steady_top.specs.Lanes.{LaneAt, lanes_of, lane_at}
+use Rattle.period_table.specs.declared.table.Slot.{Slot}
+use Rattle.period_table.specs.declared.table.Piece.{Piece}
+use Rattle.period_table.specs.Lanes.{LaneAt, lanes_of, lane_at}
 
 -- an operation, with the lane by which ties are ordered; a computation has lane 0
 pub record Placed : Type 0 where

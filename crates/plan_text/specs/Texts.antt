@@ -6,11 +6,11 @@ use Rattle.platform_file.specs.Ticks.{TimedView}
 use Rattle.schedule_model.specs.declared.schedule.Series.{Series}
 use Rattle.schedule_model.specs.Texts.{series_text}
 use Rattle.text_lines.specs.Lines.{line}
-use Rattle.steady_top.specs.declared.table.Table.{Table}
+use Rattle.period_table.specs.declared.table.Table.{Table}
 use Rattle.flow_routes.specs.declared.flow.Route.{Route}
-use Rattle.steady_top.specs.declared.table.Slot.{Slot}
-use Rattle.steady_top.specs.declared.table.Piece.{Piece}
-use Rattle.steady_top.specs.Tables.{nodes_on}
+use Rattle.period_table.specs.declared.table.Slot.{Slot}
+use Rattle.period_table.specs.declared.table.Piece.{Piece}
+use Rattle.period_table.specs.Tables.{nodes_on}
 
 -- a fraction's parts round a slash
 abbrev pub ratio_text : Fraction → List ℕ
@@ -52,10 +52,14 @@ abbrev pub slots_text : List Slot → List ℕ
 slots_text [] = []
 slots_text (slot ∷ slots) = slot_text slot ++ slots_text slots
 
+-- the line that names the series
+abbrev pub header_text : Series → List ℕ
+header_text series = codes "plan 1 " ++ series_text series
+
 -- the table and its rate in time units
 abbrev pub plan_text : TimedView → Series → Table → List ℕ
 plan_text t series table =
-    line (codes "plan 1 " ++ series_text series)
+    line (header_text series)
     ++ (line (codes "unit " ++ decimal t.unit)
     ++ (line (codes "period " ++ decimal table.period)
     ++ (line (codes "tasks " ++ decimal table.tasks)

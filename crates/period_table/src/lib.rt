@@ -1,0 +1,22 @@
+//! Periodic tables: which ones fit a platform, and the schedules that they stand for.
+#![tactic(auto)]
+
+mod busy;
+mod counting;
+mod fitting;
+mod lane;
+mod laws;
+mod moving;
+mod placed;
+mod placing;
+mod sums;
+mod table;
+#[cfg(test)]
+mod tests;
+mod unrolling;
+mod walks;
+
+pub use laws::{fitting_tables_hold, table_schedules_hold};
+pub use table::{Piece, Slot, Table};
+pub use unrolling::{UnrollFault, unroll};
+pub use walks::is_route;
