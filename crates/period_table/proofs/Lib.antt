@@ -20,3 +20,6 @@ pub mod Lengths
 pub mod FittingTables
 pub mod WalkSteps
 pub mod LaneWindows
+pub mod Overlaps
+pub mod CutSlots
+pub mod PieceSteps

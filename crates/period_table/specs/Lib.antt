@@ -5,3 +5,4 @@ pub mod Best
 pub mod BusySlots
 pub mod Counts
 pub mod Unrolled
+pub mod Cuts

@@ -3,6 +3,7 @@
 
 mod busy;
 mod counting;
+mod cutting;
 mod fitting;
 mod lane;
 mod laws;
@@ -16,7 +17,8 @@ mod tests;
 mod unrolling;
 mod walks;
 
-pub use laws::{fitting_tables_hold, table_schedules_hold};
+pub use cutting::cut;
+pub use laws::{cuts_keep_ports, fitting_tables_hold, table_schedules_hold};
 pub use table::{Piece, Slot, Table};
 pub use unrolling::{UnrollFault, unroll};
 pub use walks::is_route;

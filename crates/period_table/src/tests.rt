@@ -1,6 +1,10 @@
+ghost use Rattle.std.specs.Prelude.{◌≡◌, [], ◌∷◌, IfOk};
+
 use crate::{
-    Piece, Slot, Table, UnrollFault, fitting_tables_hold, is_route, table_schedules_hold, unroll,
+    Piece, Slot, Table, UnrollFault, cut, cuts_keep_ports, fitting_tables_hold, is_route,
+    table_schedules_hold, unroll,
 };
+use bipartite_slots::SlotPart;
 use flow_routes::Route;
 use listed::Listed;
 use platform_file::{Timed, read_platform, timed};
@@ -332,6 +336,33 @@ fn tells_too_many_operations_at_once(rt: HostRuntime) -> Result<(), Fail> {
             Err(fault) => fault == UnrollFault::TooLong,
         };
         assert_eq!(rt; is, is_long, "{text}");
+    }
+    Ok(())
+}
+
+/// Seven idle ticks.
+fn idle_parts(alloc: Global) -> Result<Listed<SlotPart>, Fail>
+    ensures { IfOk result (λ parts. parts ≡ record { duration = 7; edges = [] } ∷ []) }
+{
+    let mut parts = Listed::new(alloc);
+    parts.push(SlotPart {
+        duration: 7,
+        edges: Listed::new(alloc),
+    })?;
+    Ok(parts)
+}
+
+#[test]
+fn cuts_an_idle_period(rt: HostRuntime) -> Result<(), Fail> {
+    cuts_keep_ports();
+    let alloc = rt.alloc();
+    let chain = platform(alloc, CHAIN)?;
+    let routes: Listed<Route> = Listed::new(alloc);
+    let parts = idle_parts(alloc)?;
+    let slots = cut(alloc, &chain, routes.as_slice(), parts.as_slice())?;
+    assert_eq!(rt; slots.len(), 1);
+    for slot in slots.as_slice() {
+        assert_eq!(rt; (slot.duration, slot.pieces.len()), (7, 0));
     }
     Ok(())
 }

@@ -1,5 +1,5 @@
 -- Texts of lines that each end with a line feed.
-use Rattle.std.specs.Prelude.{◌≡◌, ◌≢◌, ℕ, List, [], ◌∷◌, ◌++◌, length, take, drop, All, Option, Some, None, option_map, nat_eq, cond, bytes_eq}
+use Rattle.std.specs.Prelude.{◌≢◌, ℕ, List, [], ◌∷◌, ◌++◌, length, take, drop, All, Option, Some, None, option_map, nat_eq, cond, bytes_eq}
 
 -- a line ends with a line feed
 abbrev pub line : List ℕ → List ℕ

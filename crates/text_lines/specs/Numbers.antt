@@ -12,6 +12,10 @@ is_plain text = is_number text && (nat_eq (length text) 1 || not (nat_eq (slice_
 abbrev pub at_most : ℕ → ℕ → Option ℕ
 at_most most n = cond (nat_le n most) (Some n) None
 
+-- the number up to a bound that these digits write
+abbrev pub number_of : ℕ → List ℕ → Option ℕ
+number_of most text = cond (is_number text) (at_most most (digits_value 10 text)) None
+
 -- the number up to a bound that is printed so
 abbrev pub natural_of : ℕ → List ℕ → Option ℕ
 natural_of most text = cond (is_plain text) (at_most most (digits_value 10 text)) None

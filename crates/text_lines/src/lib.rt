@@ -9,4 +9,4 @@ mod tests;
 
 pub use laws::numbers_are_read_as_printed;
 pub use lines::{behind, first_line};
-pub use numbers::{integer_of, natural_of};
+pub use numbers::{integer_of, natural_of, number_of};

@@ -5,7 +5,7 @@ ghost use Rattle.std.specs.Char.{is_ascii_digit};
 ghost use Rattle.std.specs.List.{list_all};
 ghost use Rattle.std.specs.Str.Parse.{digits_value};
 ghost use Rattle.ratio_core.specs.Texts.{is_number};
-ghost use Rattle.text_lines.specs.Numbers.{is_plain, at_most, below_zero, natural_of, integer_of};
+ghost use Rattle.text_lines.specs.Numbers.{is_plain, at_most, below_zero, number_of, natural_of, integer_of};
 
 /// Whether all of the bytes are ASCII digits.
 fn all_digits(bytes: &[u8]) -> bool
@@ -33,6 +33,18 @@ fn value_within(digits: &[u8], most: u128) -> Option<u128>
             .checked_add(u128::from(*digit - b'0'))?;
     }
     if value <= most { Some(value) } else { None }
+}
+
+/// The number that decimal digits write, leading zeros among them. `None` where the text is no digits, or the number is greater than the
+/// bound.
+pub fn number_of(text: &[u8], most: u128) -> Option<u128>
+    ensures { result ≡ number_of most text.now }
+{
+    if !text.is_empty() && all_digits(text) {
+        value_within(text, most)
+    } else {
+        None
+    }
 }
 
 /// The number that is printed so: in decimal digits without a leading zero. `None` where the text is no such one, or the number is

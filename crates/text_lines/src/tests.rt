@@ -1,4 +1,4 @@
-use crate::{behind, first_line, integer_of, natural_of, numbers_are_read_as_printed};
+use crate::{behind, first_line, integer_of, natural_of, number_of, numbers_are_read_as_printed};
 
 #[test]
 fn reads_lines(rt: HostRuntime) {
@@ -36,4 +36,19 @@ fn reads_numbers(rt: HostRuntime) {
     assert_eq!(rt; natural_of(b"7", 7), Some(7));
     assert_eq!(rt; natural_of(b"8", 7), None);
     numbers_are_read_as_printed();
+}
+
+#[test]
+fn reads_digits(rt: HostRuntime) {
+    for (text, number) in [
+        ("0", Some(0)),
+        ("007", Some(7)),
+        ("1000", Some(1000)),
+        ("1001", None),
+        ("", None),
+        ("+7", None),
+        ("7x", None),
+    ] {
+        assert_eq!(rt; number_of(text.as_bytes(), 1000), number, "{text}");
+    }
 }

@@ -1,4 +1,4 @@
-use Rattle.std.proofs.Common.{rules, ◌≡◌, ◌+◌, ◌-◌, ◌<◌, ◌≤◌, suc, length, take, drop, slice_index, add-one, arith}
+use Rattle.std.proofs.Common.{◌≡◌, ◌+◌, ◌-◌, length, take, drop, add-one, arith}
 use Rattle.std.proofs.lemmas.List.{take_all, length-drop}
 use Rattle.text_lines.proofs.FirstLines.{line_at, no_line}
 use Rattle.text_lines.proofs.lines.first_line.Goals as goal

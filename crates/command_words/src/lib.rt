@@ -1,0 +1,11 @@
+//! The words of the command line.
+#![tactic(auto)]
+
+mod command;
+mod finding;
+mod reading;
+#[cfg(test)]
+mod tests;
+
+pub use command::{Command, WordsFault};
+pub use reading::command_in;
