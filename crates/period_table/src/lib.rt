@@ -19,6 +19,7 @@ mod walks;
 
 pub use cutting::cut;
 pub use laws::{cuts_keep_ports, fitting_tables_hold, table_schedules_hold};
+pub use sums::{longest, tasks_within};
 pub use table::{Piece, Slot, Table};
 pub use unrolling::{UnrollFault, unroll};
 pub use walks::is_route;

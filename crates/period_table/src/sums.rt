@@ -13,8 +13,8 @@ pub(crate) const MOST_TASKS: u128 = 1 << 107;
 /// The most ticks of a period.
 pub(crate) const MOST_TICKS: u128 = 1 << 100;
 
-/// The tasks of all routes.
-pub(crate) fn tasks_within(routes: &[Route]) -> u128
+/// The tasks of all routes, or 2^107 + 1 where they are more than 2^107.
+pub fn tasks_within(routes: &[Route]) -> u128
     ensures { result ≡ min (sum_by (λ route. route.count) routes.now) (2 ^ 107 + 1) }
 {
     let mut sum: u128 = 0;
@@ -37,8 +37,8 @@ pub(crate) fn kind_within(routes: &[Route], kind: u32) -> u128
     sum
 }
 
-/// The length of the longest route.
-pub(crate) fn longest(routes: &[Route]) -> usize
+/// The number of links on the longest route, and 0 where there is none.
+pub fn longest(routes: &[Route]) -> usize
     ensures { result ≡ longest routes.now }
 {
     let mut most = 0;

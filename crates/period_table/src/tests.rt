@@ -1,8 +1,8 @@
 ghost use Rattle.std.specs.Prelude.{◌≡◌, [], ◌∷◌, IfOk};
 
 use crate::{
-    Piece, Slot, Table, UnrollFault, cut, cuts_keep_ports, fitting_tables_hold, is_route,
-    table_schedules_hold, unroll,
+    Piece, Slot, Table, UnrollFault, cut, cuts_keep_ports, fitting_tables_hold, is_route, longest,
+    table_schedules_hold, tasks_within, unroll,
 };
 use bipartite_slots::SlotPart;
 use flow_routes::Route;
@@ -363,6 +363,23 @@ fn cuts_an_idle_period(rt: HostRuntime) -> Result<(), Fail> {
     assert_eq!(rt; slots.len(), 1);
     for slot in slots.as_slice() {
         assert_eq!(rt; (slot.duration, slot.pieces.len()), (7, 0));
+    }
+    Ok(())
+}
+
+#[test]
+fn counts_routes(rt: HostRuntime) -> Result<(), Fail> {
+    let alloc = rt.alloc();
+    let most = 1 << 107;
+    let mut routes = Listed::new(alloc);
+    for (text, tasks, links) in [
+        ("1 3 0 0", 3, 1),
+        ("2 4 0 0 1", 7, 2),
+        ("0 162259276829213363391578010288128 0", most + 1, 2),
+    ] {
+        routes.push(route(alloc, text)?)?;
+        assert_eq!(rt; tasks_within(routes.as_slice()), tasks, "{text}");
+        assert_eq!(rt; longest(routes.as_slice()), links, "{text}");
     }
     Ok(())
 }

@@ -4,19 +4,11 @@ use Rattle.platform_file.specs.Ticks.{TimedView}
 use Rattle.linear_program.specs.Certificates.{CertificateView}
 use Rattle.linear_program.specs.Programmes.{gain_value}
 use Rattle.linear_program.specs.Duality.{priced_sides, IsFeasible, IsDualFeasible}
-use Rattle.linear_program.specs.Starts.{start_table}
 use Rattle.linear_program.specs.declared.certificate.Optimum.{Optimum}
-use Rattle.exact_simplex.specs.Answers.{answer_of}
-use Rattle.exact_simplex.specs.Bland.{bland_run}
 use Rattle.exact_simplex.specs.declared.fault.SolveFault.{SolveFault}
 use Rattle.tasking_program.specs.Programme.{tasking_programme}
 use Rattle.planner.specs.declared.fault.PlanFault.{PlanFault}
-
--- why there is no plan where the programme isn't solved
-abbrev pub plan_fault : SolveFault → PlanFault
-plan_fault (SolveFault.Overflow pivots row column) = PlanFault.Pivot pivots row column
-plan_fault (SolveFault.Spent limit) = PlanFault.Spent limit
-plan_fault SolveFault.NoMemory = PlanFault.NoMemory
+use Rattle.planner.specs.Plans.{plan_fault, solution_of}
 
 -- the certificate of a solution
 abbrev pub certificate_of : Result Optimum SolveFault → Result CertificateView PlanFault
@@ -25,7 +17,7 @@ certificate_of (Err fault) = Err (plan_fault fault)
 
 -- the certificate at the end of the run by Bland's rule with so many pivots allowed, or why the run has no end
 abbrev pub prices_of : ℕ → TimedView → Option (Result CertificateView PlanFault)
-prices_of limit t = option_map certificate_of (answer_of limit (bland_run limit (start_table (tasking_programme t))))
+prices_of limit t = option_map certificate_of (solution_of limit t)
 
 -- the prices cover every column of the programme, and some point that keeps to its rows gains all that they allow: best over scale
 pub record IsBestCertificate (t : TimedView) (c : CertificateView) : Type 0 where

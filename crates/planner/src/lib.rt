@@ -2,9 +2,20 @@
 #![tactic(auto)]
 
 mod fault;
+mod flowing;
+mod making;
+mod numbers;
+mod planned;
+mod planning;
 mod pricing;
+mod scaling;
 #[cfg(test)]
 mod tests;
+mod weighing;
 
 pub use fault::PlanFault;
+pub use making::table_of;
+pub use numbers::{PeriodStep, TableFault};
+pub use planned::Plan;
+pub use planning::plan;
 pub use pricing::prices;

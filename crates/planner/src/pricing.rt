@@ -20,7 +20,7 @@ use std::alloc::Global;
 use tasking_program::{prices_bound_rates, programmes_are_bounded, tasking_lp};
 
 /// Solves a bounded programme over a table of whole rows.
-fn solved(alloc: Global, lp: &Lp, limit: u64) -> Result<Optimum, SolveFault>
+pub(crate) fn solved(alloc: Global, lp: &Lp, limit: u64) -> Result<Optimum, SolveFault>
     requires { IsBounded lp.now }
     ensures exact { result ≢ Err SolveFault.NoMemory → answer_of limit (bland_run limit (start_table lp.now)) ≡ Some result }
     ensures optimal { IfOk result (IsOptimal lp.now) }

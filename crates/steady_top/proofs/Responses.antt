@@ -5,8 +5,8 @@ use Rattle.outside_io.specs.Files.{Told, untold, absent, contents, FilesView, Ma
 use Rattle.outside_io.specs.Sinks.{SinkView}
 use Rattle.steady_top.specs.declared.status.Status.{Status}
 use Rattle.steady_top.specs.declared.status.Status.TheVariants as status
-use Rattle.steady_top.specs.Refusals.{Reason, limit, not_toml, bad_field, twice_named, unknown, target_is_master, target_twice, self_link, twice_linked, bad_ratio, unit, links_not_yet, pivot, spent, long_certificate, certificate_line, negative_price, uncovered_column, passed_value, check_overflow, Refusal, usage, refused, cannot_read, no_memory, reason_status, status_of, error_line}
-use Rattle.steady_top.specs.Outcomes.{Command, check, first_name, second_name, command_of, Outcome, prints, refuses, check_of_name, outcome_for, outcome_of_command, outcome_of}
+use Rattle.steady_top.specs.Refusals.{Reason, limit, not_toml, bad_field, twice_named, unknown, target_is_master, target_twice, self_link, twice_linked, bad_ratio, unit, pivot, spent, period, long_certificate, certificate_line, negative_price, uncovered_column, passed_value, check_overflow, Refusal, usage, refused, cannot_read, no_memory, reason_status, status_of, error_line}
+use Rattle.steady_top.specs.Outcomes.{Command, check, first_name, second_name, command_of, Outcome, refuses, IsPrint, IsText, check_of_name, outcome_for, outcome_of_command, outcome_of}
 use Rattle.steady_top.specs.Answers.{MayBe, IsToldAs, AreToldAs, ComesTo, IsSecondFault, IsCauseFor, IsCause, IsPrinted, IsRefused, IsRefusedWith, IsCutShort, IsResponse}
 
 -- the statuses of refusals of what was read
@@ -30,9 +30,9 @@ of_reason (self_link link) = tt
 of_reason (twice_linked link) = tt
 of_reason (bad_ratio place cause) = tt
 of_reason (unit left right) = tt
-of_reason links_not_yet = tt
 of_reason (pivot pivots row column) = tt
 of_reason (spent pivots) = tt
+of_reason (period step left right) = tt
 of_reason long_certificate = tt
 of_reason (certificate_line number) = tt
 of_reason (negative_price row) = tt
@@ -211,14 +211,14 @@ module _ (words : List (List ℕ)) (before after : FilesView) (empty full : Sink
     ]
   ]
 
-  pub complete : (holds : List ℕ → Option (List ℕ)) (text : List ℕ) → AreToldAs before holds → outcome_of words holds ≡ prints text →
+  pub complete : (holds : List ℕ → Option (List ℕ)) → AreToldAs before holds → IsText (outcome_of words holds) →
       (Rose before.faults after.faults → ⊥) → (Rose empty.faults full.faults → ⊥) → (result ≡ status.Done) ⊎ (result ≡ status.NoMemory)
-  complete holds text told outcome calm calm_sink = elim response [
+  complete holds told outcome calm calm_sink = elim response [
     | inl attempt ↦ elim attempt.ends [ inl whole ↦ inl whole.0 | inr cut ↦ absurd (calm_sink cut.1.cause) ]
     | inr attempt ↦ elim attempt.ends [
       | inl whole ↦ elim (cause_is_outcome words before after attempt.refusal calm attempt.cause) [
         | inl memory ↦ inr (whole.0 ∙ ap status_of memory)
-        | inr due ↦ let bad = sym outcome ∙ due holds told in cc
+        | inr due ↦ absurd (subst IsText (due holds told) outcome)
       ]
       | inr cut ↦ absurd (calm_sink cut.1.cause)
     ]
@@ -228,8 +228,9 @@ module _ (words : List (List ℕ)) (before after : FilesView) (empty full : Sink
       (Rose before.faults after.faults → ⊥) → (Rose empty.faults full.faults → ⊥) → (result ≡ status_of refusal) ⊎ (result ≡ status.NoMemory)
   exact holds refusal told outcome calm calm_sink = elim response [
     | inl attempt ↦
-        let printed : refuses refusal ≡ prints attempt.text = sym outcome ∙ words_come_to words before holds attempt.answer.command (prints attempt.text) told attempt.answer.given attempt.answer.holds.due in
-        cc
+        let made = attempt.answer.holds in
+        let refused_too : made.outcome ≡ refuses refusal = sym (words_come_to words before holds attempt.answer.command made.outcome told attempt.answer.given made.comes) ∙ outcome in
+        absurd (subst (λ is. IsPrint is attempt.text) refused_too made.due)
     | inr attempt ↦ elim attempt.ends [
       | inl whole ↦ elim (cause_is_outcome words before after attempt.refusal calm attempt.cause) [
         | inl memory ↦ inr (whole.0 ∙ ap status_of memory)

@@ -1,5 +1,5 @@
 -- What the work of each command comes to, from what was read of its files.
-use Rattle.std.proofs.Common.{◌≡◌, ◌∙◌, ℕ, suc, ◌+◌, ◌<◌, ◌≤◌, nat_lt, true, false, cond, List, [], ◌∷◌, ◌++◌, codes, decimal, length, replicate, Option, Some, None, Result, Ok, Err, MatchResult, refl, sym, ap, subst, arith, inl, inr}
+use Rattle.std.proofs.Common.{◌≡◌, ◌∙◌, ℕ, suc, ◌+◌, ◌*◌, nat_abs, option_and_then, ◌<◌, ◌≤◌, nat_lt, true, false, cond, List, [], ◌∷◌, ◌++◌, codes, decimal, length, replicate, Option, Some, None, Result, Ok, Err, MatchResult, refl, sym, ap, subst, arith, inl, inr}
 use Rattle.std.proofs.lemmas.Bool.{lt-ltb, le-ltb}
 use Rattle.std.proofs.lemmas.List.{length-replicate, append_assoc}
 use Rattle.std.specs.Result.{IsErr, IsErrAnd}
@@ -19,9 +19,16 @@ use Rattle.platform_file.specs.Ticks.{TimedView, timed_of, IsTimedFault}
 use Rattle.linear_program.specs.Certificates.{CertificateView}
 use Rattle.planner.specs.declared.fault.PlanFault.{PlanFault}
 use Rattle.planner.specs.declared.fault.PlanFault.TheVariants as plans
-use Rattle.planner.specs.Prices.{prices_of}
-use Rattle.steady_top.specs.Refusals.{Reason, limit, not_toml, bad_field, twice_named, unknown, target_is_master, target_twice, self_link, twice_linked, bad_ratio, pivot, spent, long_certificate, Refusal, usage, refused, cannot_read, no_memory, platform_refusal, timed_refusal, plan_refusal}
-use Rattle.steady_top.specs.Outcomes.{Command, prices, check, first_name, second_name, Outcome, prints, refuses, with_timed, with_platform, with_file, most_pivots, priced, judged, judged_reading, check_of_file, upper_text, work_of}
+use Rattle.planner.specs.declared.planned.Plan.{Plan}
+use Rattle.planner.specs.Prices.{prices_of, IsBestCertificate}
+use Rattle.planner.specs.Plans.{fault_of_scale, fault_of_answer, fault_of, IsPlan}
+use Rattle.period_table.specs.Best.{IsBest}
+use Rattle.plan_text.specs.Texts.{plan_text}
+use Rattle.schedule_model.specs.declared.schedule.Series.TheVariants.{Tasking}
+use Rattle.schedule_model.specs.Throughput.{IsUpperRate}
+use Rattle.dual_checker.specs.Texts.{certificate_text}
+use Rattle.steady_top.specs.Refusals.{Reason, limit, not_toml, bad_field, twice_named, unknown, target_is_master, target_twice, self_link, twice_linked, bad_ratio, pivot, spent, period, long_certificate, Refusal, usage, refused, cannot_read, no_memory, platform_refusal, timed_refusal, plan_refusal}
+use Rattle.steady_top.specs.Outcomes.{Command, plan, prices, check, first_name, second_name, Outcome, prints, plans as plans_of, refuses, with_timed, with_platform, with_file, most_pivots, planned, priced, judged, judged_reading, check_of_file, upper_text, work_of}
 use Rattle.steady_top.specs.Answers.{MayBe, ComesTo, IsMade, IsCauseFor}
 use Rattle.steady_top.specs.Planned.{IsPlatformRead, IsPlatformFault, IsCertificateRead, IsCertificateFault, IsProved, IsJudged}
 
@@ -115,14 +122,50 @@ platform_fault command before after (cannot_read named) fault =
     inl (record { is_first = fault.same; cause = subst (λ name. HasCause before name after) (sym fault.same) fault.cause; one_open = fault.one_open })
 platform_fault command before after no_memory fault = tt
 
+-- a fault of the planner is why the command is refused
+refused_for : (command : Command) (before middle after : FilesView) (t : TimedView) (second : Option (List ℕ)) → IsPlatformRead before (first_name command) middle t → MayBe (before.held (second_name command)) second →
+    (fault : PlanFault) (refusal : Refusal) → ((fault ≡ plans.NoMemory → ⊥) → work_of command second t ≡ refuses (plan_refusal fault)) → refusal ≡ plan_refusal fault → IsCauseFor command before after refusal
+refused_for command before middle after t second read told (plans.Pivot pivots row column) refusal exact is = rw is (comes_of command before middle t second (refuses (refused (pivot pivots row column))) read told (exact (λ e. cc)))
+refused_for command before middle after t second read told (plans.Spent allowed) refusal exact is = rw is (comes_of command before middle t second (refuses (refused (spent allowed))) read told (exact (λ e. cc)))
+refused_for command before middle after t second read told (plans.Period step left right) refusal exact is = rw is (comes_of command before middle t second (refuses (refused (period step left right))) read told (exact (λ e. cc)))
+refused_for command before middle after t second read told plans.NoMemory refusal exact is = rw is tt
+
 -- why there are no prices is why the command is refused
 pub prices_fault : (before middle after : FilesView) (name : List ℕ) (t : TimedView) → IsPlatformRead before name middle t → (fault : PlanFault) (refusal : Refusal) →
     ((fault ≡ plans.NoMemory → ⊥) → prices_of most_pivots t ≡ Some (Err fault)) → refusal ≡ plan_refusal fault → IsCauseFor (prices name) before after refusal
-prices_fault before middle after name t read (plans.Pivot pivots row column) refusal exact is =
-    rw is (comes_of (prices name) before middle t (Some read.platform.bytes) (refuses (refused (pivot pivots row column))) read read.platform.file (ap priced (exact (λ e. cc))))
-prices_fault before middle after name t read (plans.Spent allowed) refusal exact is =
-    rw is (comes_of (prices name) before middle t (Some read.platform.bytes) (refuses (refused (spent allowed))) read read.platform.file (ap priced (exact (λ e. cc))))
-prices_fault before middle after name t read plans.NoMemory refusal exact is = rw is tt
+prices_fault before middle after name t read fault refusal exact is =
+    refused_for (prices name) before middle after t (Some read.platform.bytes) read read.platform.file fault refusal (λ some. ap priced (exact some)) is
+
+-- why there is no plan is why the command is refused
+pub plan_fault : (before middle after : FilesView) (name : List ℕ) (t : TimedView) → IsPlatformRead before name middle t → (fault : PlanFault) (refusal : Refusal) →
+    ((fault ≡ plans.NoMemory → ⊥) → fault_of most_pivots t ≡ Some fault) → refusal ≡ plan_refusal fault → IsCauseFor (plan name) before after refusal
+plan_fault before middle after name t read fault refusal exact is =
+    refused_for (plan name) before middle after t (Some read.platform.bytes) read read.platform.file fault refusal (λ some. ap (planned t) (exact some)) is
+
+-- a plan that is found is what the command prints
+pub planned_is_made : (before after : FilesView) (name : List ℕ) (t : TimedView) (found : Plan) (text : List ℕ) → IsPlatformRead before name after t → IsPlan most_pivots t found → IsBest t Tasking found.table →
+    text ≡ plan_text t Tasking found.table → IsMade (plan name) before after text
+planned_is_made before after name t found text read made best is = record {
+  outcome = plans_of t;
+  comes = comes_of (plan name) before after t (Some read.platform.bytes) (plans_of t) read read.platform.file (ap (planned t) none);
+  due = record { plan = found; is = made; is_text = is };
+  claim = record { timed = t; platform = read.platform; plan = found; made = made; best = best; is_plan = is };
+  calm = read.calm;
+}
+  where
+    none : fault_of most_pivots t ≡ None
+    none = ap (option_and_then (fault_of_answer t)) made.solved ∙ ap fault_of_scale made.made.scaled
+
+-- prices that are found are what the command prints
+pub priced_is_made : (before after : FilesView) (name : List ℕ) (t : TimedView) (c : CertificateView) (text : List ℕ) → IsPlatformRead before name after t → prices_of most_pivots t ≡ Some (Ok c) → IsBestCertificate t c →
+    IsUpperRate t Tasking (nat_abs c.best * t.unit) (nat_abs c.scale) → text ≡ certificate_text Tasking c → IsMade (prices name) before after text
+priced_is_made before after name t c text read run best rate is = record {
+  outcome = prints text;
+  comes = comes_of (prices name) before after t (Some read.platform.bytes) (prints text) read read.platform.file (ap priced run ∙ ap prints (sym is));
+  due = refl;
+  claim = record { timed = t; platform = read.platform; certificate = c; run = run; best = best; rate = rate; is_certificate = is };
+  calm = read.calm;
+}
 
 -- what is told of a name, behind a file that was read
 told_before : (before middle : FilesView) (name : List ℕ) (t : TimedView) (second : List ℕ) (file : Option (List ℕ)) → IsPlatformRead before name middle t → MayBe (middle.held second) file →
@@ -155,7 +198,9 @@ module _ (before middle after : FilesView) (name second : List ℕ) (t : TimedVi
 
   pub proved_is_made : (text : List ℕ) → IsProved t c text → IsMade (check name second) before after text
   proved_is_made text proved = record {
-    due = comes_to (prints text) (ap (judged t c) proved.proves ∙ ap prints (sym proved.is_line));
+    outcome = prints text;
+    comes = comes_to (prints text) (ap (judged t c) proved.proves ∙ ap prints (sym proved.is_line));
+    due = refl;
     claim = record {
       timed = t;
       platform = read.platform;

@@ -14,14 +14,15 @@ use Rattle.dual_checker.specs.declared.verdict.Verdict.TheVariants.{Proves}
 use Rattle.dual_checker.specs.Reading.{certificate_of}
 use Rattle.dual_checker.specs.Texts.{certificate_text}
 use Rattle.dual_checker.specs.Verdicts.{verdict_of}
+use Rattle.planner.specs.declared.planned.Plan.{Plan}
 use Rattle.planner.specs.Prices.{prices_of, IsBestCertificate}
+use Rattle.planner.specs.Plans.{IsPlan}
 use Rattle.steady_top.specs.declared.status.Status.{Status}
 use Rattle.steady_top.specs.declared.status.Status.TheVariants as status
-use Rattle.period_table.specs.declared.table.Table.{Table}
 use Rattle.period_table.specs.Best.{IsBest}
 use Rattle.plan_text.specs.Texts.{plan_text}
 use Rattle.steady_top.specs.Refusals.{Reason, Refusal, usage, refused, cannot_read, no_memory, reason_status, status_of, error_line}
-use Rattle.steady_top.specs.Outcomes.{Command, plan, prices, check, first_name, second_name, command_of, most_pivots, upper_text, Outcome, prints, refuses, with_file, outcome_for}
+use Rattle.steady_top.specs.Outcomes.{Command, plan, prices, check, first_name, second_name, command_of, most_pivots, upper_text, Outcome, refuses, IsPrint, with_file, outcome_for}
 
 -- this may be what a name holds of which that is told
 abbrev pub MayBe : Told → Option (List ℕ) → Type 0
@@ -55,13 +56,14 @@ pub record IsPlatformOf (before : FilesView) (name : List ℕ) (t : TimedView) :
   pub read : platform_of bytes ≡ Ok platform
   pub in_ticks : timed_of platform ≡ Ok t
 
--- the text is the plan of a best table for the platform of the file's bytes
+-- the text is the plan of the platform of the file's bytes, whose table is best
 pub record IsBestText (before : FilesView) (name text : List ℕ) : Type 0 where
   pub timed : TimedView
   pub platform : IsPlatformOf before name timed
-  pub table : Table
-  pub best : IsBest timed Tasking table
-  pub is_plan : text ≡ plan_text timed Tasking table
+  pub plan : Plan
+  pub made : IsPlan most_pivots timed plan
+  pub best : IsBest timed Tasking plan.table
+  pub is_plan : text ≡ plan_text timed Tasking plan.table
 
 -- the text is the certificate of the best rate of the platform of the file's bytes, which no schedule exceeds
 pub record IsPricedText (before : FilesView) (name text : List ℕ) : Type 0 where
@@ -93,7 +95,9 @@ IsClaim (check name second) before text = IsCheckedText before name second text
 
 -- a command's text is due, where no call of the files failed, and is what it claims
 pub record IsMade (command : Command) (before after : FilesView) (text : List ℕ) : Type 0 where
-  pub due : ComesTo command before (prints text)
+  pub outcome : Outcome
+  pub comes : ComesTo command before outcome
+  pub due : IsPrint outcome text
   pub claim : IsClaim command before text
   pub calm : after.faults ≡ before.faults
 

@@ -1,7 +1,7 @@
 -- The refusal that a fault of the code stands for.
 use Rattle.steady_top.specs.declared.fault.TopFault.{TopFault}
 use Rattle.steady_top.specs.declared.fault.TopFault.TheVariants as top
-use Rattle.steady_top.specs.Refusals.{Refusal, usage, cannot_read, refused, no_memory, limit, not_toml, bad_field, twice_named, unknown, target_is_master, target_twice, self_link, twice_linked, bad_ratio, unit, links_not_yet, pivot, spent, long_certificate, certificate_line, negative_price, uncovered_column, passed_value, check_overflow}
+use Rattle.steady_top.specs.Refusals.{Refusal, usage, cannot_read, refused, no_memory, limit, not_toml, bad_field, twice_named, unknown, target_is_master, target_twice, self_link, twice_linked, bad_ratio, unit, pivot, spent, period, long_certificate, certificate_line, negative_price, uncovered_column, passed_value, check_overflow}
 
 -- each fault is the refusal of its name
 abbrev pub refusal_of : TopFault → Refusal
@@ -18,9 +18,9 @@ refusal_of (top.SelfLink link) = refused (self_link link)
 refusal_of (top.TwiceLinked link) = refused (twice_linked link)
 refusal_of (top.BadRatio place cause) = refused (bad_ratio place cause)
 refusal_of (top.Unit left right) = refused (unit left right)
-refusal_of top.LinksNotYet = refused links_not_yet
 refusal_of (top.Pivot pivots row column) = refused (pivot pivots row column)
 refusal_of (top.Spent pivots) = refused (spent pivots)
+refusal_of (top.Period step left right) = refused (period step left right)
 refusal_of top.LongCertificate = refused long_certificate
 refusal_of (top.CertificateLine number) = refused (certificate_line number)
 refusal_of (top.NegativePrice row) = refused (negative_price row)

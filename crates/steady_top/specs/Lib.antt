@@ -1,4 +1,3 @@
-pub mod LoneTables
 pub mod Refusals
 pub mod Outcomes
 pub mod Answers

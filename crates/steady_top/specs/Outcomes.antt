@@ -1,5 +1,5 @@
 -- What the program answers, for given words and contents of files (this project).
-use Rattle.std.specs.Prelude.{ℕ, ◌+◌, Bool, false, ◌||◌, cond, List, [], ◌∷◌, ◌++◌, length, Option, Some, None, Result, Ok, Err, nat_eq, nat_lt, bytes_eq, codes, decimal}
+use Rattle.std.specs.Prelude.{◌≡◌, ℕ, ◌+◌, Bool, false, ◌||◌, cond, List, [], ◌∷◌, ◌++◌, length, Option, Some, None, Result, Ok, Err, nat_eq, nat_lt, bytes_eq, codes, decimal}
 use Rattle.std.specs.Fmt.{signed_decimal}
 use Rattle.platform_file.specs.declared.fault.PlatformFault.{PlatformFault}
 use Rattle.platform_file.specs.declared.fault.Kind.TheVariants.{Text}
@@ -18,11 +18,12 @@ use Rattle.dual_checker.specs.Texts.{certificate_text}
 use Rattle.dual_checker.specs.Reading.{certificate_of}
 use Rattle.dual_checker.specs.Verdicts.{verdict_of}
 use Rattle.planner.specs.declared.fault.PlanFault.{PlanFault}
+use Rattle.planner.specs.declared.planned.Plan.{Plan}
 use Rattle.planner.specs.Prices.{prices_of}
+use Rattle.planner.specs.Plans.{fault_of, IsPlan}
 use Rattle.text_lines.specs.Lines.{line}
-use Rattle.steady_top.specs.LoneTables.{uses_links, lone_table}
 use Rattle.plan_text.specs.Texts.{plan_text}
-use Rattle.steady_top.specs.Refusals.{Refusal, usage, refused, limit, links_not_yet, long_certificate, certificate_line, negative_price, uncovered_column, passed_value, check_overflow, cannot_read, no_memory, platform_refusal, timed_refusal, plan_refusal}
+use Rattle.steady_top.specs.Refusals.{Refusal, usage, refused, limit, long_certificate, certificate_line, negative_price, uncovered_column, passed_value, check_overflow, cannot_read, no_memory, platform_refusal, timed_refusal, plan_refusal}
 
 -- `plan FILE`, `prices FILE` or `check FILE CERTIFICATE`
 pub data Command : Type 0 where
@@ -61,9 +62,10 @@ command_of (word ∷ (name ∷ [])) = cond (begins_with_dash name) None (command
 command_of (word ∷ (name ∷ (second ∷ []))) = cond (begins_with_dash name || begins_with_dash second) None (command_of_two word name second)
 command_of _ = None
 
--- the program prints these bytes, or refuses
+-- the program prints these bytes, prints the plan of a platform, or refuses
 pub data Outcome : Type 0 where
   prints : List ℕ → Outcome
+  plans : TimedView → Outcome
   refuses : Refusal → Outcome
 
 -- what comes of a platform that is brought into ticks
@@ -85,13 +87,36 @@ abbrev pub with_name : (TimedView → Outcome) → List ℕ → Option (List ℕ
 with_name next name None = refuses (cannot_read name)
 with_name next name (Some bytes) = with_file next bytes
 
--- a platform's plan is that of the best table, which is known so far where no link is used
-abbrev pub plan_of : TimedView → Outcome
-plan_of t = cond (uses_links t.platform) (refuses (refused links_not_yet)) (prints (plan_text t Tasking (lone_table t)))
-
 -- how many pivots are made at the most
 abbrev pub most_pivots : ℕ
 most_pivots = 100000
+
+-- a platform is planned, or there is a fault
+abbrev pub planned : TimedView → Option PlanFault → Outcome
+planned t None = plans t
+planned t (Some fault) = refuses (plan_refusal fault)
+
+-- what comes of a platform that is to be planned
+abbrev pub plan_of : TimedView → Outcome
+plan_of t = planned t (fault_of most_pivots t)
+
+-- the text is that of the platform's plan
+pub record IsPlanText (t : TimedView) (text : List ℕ) : Type 0 where
+  pub plan : Plan
+  pub is : IsPlan most_pivots t plan
+  pub is_text : text ≡ plan_text t Tasking plan.table
+
+-- the outcome lets the program print the text
+abbrev pub IsPrint : Outcome → List ℕ → Type 0
+IsPrint (prints bytes) text = text ≡ bytes
+IsPrint (plans t) text = IsPlanText t text
+IsPrint (refuses refusal) text = ⊥
+
+-- the outcome is no refusal
+abbrev pub IsText : Outcome → Type 0
+IsText (prints bytes) = Unit {0}
+IsText (plans t) = Unit {0}
+IsText (refuses refusal) = ⊥
 
 -- the text of a certificate, or why there is none; a run over a bounded programme always has an answer
 abbrev pub priced : Option (Result CertificateView PlanFault) → Outcome

@@ -10,6 +10,8 @@ use Rattle.platform_file.specs.declared.fault.Place.{Place}
 use Rattle.platform_file.specs.Places.{place_text}
 use Rattle.planner.specs.declared.fault.PlanFault.{PlanFault}
 use Rattle.planner.specs.declared.fault.PlanFault.TheVariants as plans
+use Rattle.planner.specs.declared.numbers.PeriodStep.{PeriodStep}
+use Rattle.planner.specs.Plans.{step_text}
 use Rattle.ratio_core.specs.declared.text.RatioFault.{RatioFault}
 use Rattle.ratio_core.specs.declared.text.RatioFault.TheVariants as ratio
 use Rattle.steady_top.specs.declared.status.Status.{Status}
@@ -40,12 +42,12 @@ pub data Reason : Type 0 where
   bad_ratio : Place → RatioFault → Reason
   -- the ticks of a time unit pass their bound at these two numbers
   unit : ℕ → ℕ → Reason
-  -- a plan would use a link, and such plans aren't built yet
-  links_not_yet : Reason
   -- after so many pivots the next one overflows, first at this cell
   pivot : ℕ → ℕ → ℕ → Reason
   -- so many pivots are spent
   spent : ℕ → Reason
+  -- the period of a plan passes its bound at this step, by these two numbers
+  period : PeriodStep → ℕ → ℕ → Reason
   -- the certificate's file is too long
   long_certificate : Reason
   -- this line isn't a certificate's
@@ -93,12 +95,14 @@ timed_refusal ticks.NoMemory = no_memory
 abbrev pub plan_refusal : PlanFault → Refusal
 plan_refusal (plans.Pivot pivots row column) = refused (pivot pivots row column)
 plan_refusal (plans.Spent pivots) = refused (spent pivots)
+plan_refusal (plans.Period step left right) = refused (period step left right)
 plan_refusal plans.NoMemory = no_memory
 
 -- the status of a reason
 abbrev pub reason_status : Reason → Status
 reason_status (unit left right) = status.Overflow
 reason_status (pivot pivots row column) = status.Overflow
+reason_status (period step left right) = status.Overflow
 reason_status (check_overflow column) = status.Overflow
 reason_status (spent pivots) = status.Spent
 reason_status long_certificate = status.TooLong
@@ -141,9 +145,9 @@ reason_text (self_link link) = codes "platform: link " ++ (decimal link ++ codes
 reason_text (twice_linked link) = codes "platform: link " ++ (decimal link ++ codes " given twice")
 reason_text (bad_ratio place cause) = codes "platform: bad ratio at " ++ (place_text place ++ (codes ": " ++ cause_text cause))
 reason_text (unit left right) = codes "ticks overflow: lcm of " ++ (decimal left ++ (codes " and " ++ decimal right))
-reason_text links_not_yet = codes "platform: links not built"
 reason_text (pivot pivots row column) = codes "pivot overflow after " ++ (decimal pivots ++ (codes " pivots at cell " ++ (decimal row ++ (codes " " ++ decimal column))))
 reason_text (spent pivots) = codes "pivot limit " ++ (decimal pivots ++ codes " spent")
+reason_text (period step left right) = codes "period overflow at " ++ (step_text step ++ (codes ": " ++ (decimal left ++ (codes " and " ++ decimal right))))
 reason_text long_certificate = codes "too long: certificate"
 reason_text (certificate_line number) = codes "certificate: line " ++ decimal number
 reason_text (negative_price row) = codes "certificate: price " ++ (decimal row ++ codes " negative")

@@ -6,7 +6,7 @@ ghost use Rattle.steady_top.specs.Faults.{refusal_of};
 
 use crate::status::Status;
 use listed::NoMemory;
-use planner::PlanFault;
+use planner::{PeriodStep, PlanFault};
 use platform_file::{Kind, Place, PlatformFault, TimedFault};
 use ratio_core::RatioFault;
 use std::alloc::Global;
@@ -39,12 +39,12 @@ pub enum TopFault<'a> {
     BadRatio(Place, RatioFault),
     /// The ticks of a time unit pass 2^40 at the least common multiple of these two numbers.
     Unit(u128, u128),
-    /// A plan would use a link, and such plans aren't built yet.
-    LinksNotYet,
     /// After so many pivots the next one passes 2^127 - 1 in size, first at this row and column of the table.
     Pivot(u64, u32, u32),
     /// The best rate isn't reached after so many pivots.
     Spent(u64),
+    /// The period of a plan passes 2^100 ticks at this step, by these two numbers.
+    Period(PeriodStep, u128, u128),
     /// The certificate's file is longer than 1 MiB.
     LongCertificate,
     /// This line, counted from 1, is the first that isn't a certificate's.
@@ -107,12 +107,15 @@ impl fmt::Display for TopFault<'_> {
                 write!(f, "platform: bad ratio at {place}: {cause}")
             }
             TopFault::Unit(left, right) => write!(f, "ticks overflow: lcm of {left} and {right}"),
-            TopFault::LinksNotYet => write!(f, "platform: links not built"),
             TopFault::Pivot(pivots, row, column) => write!(
                 f,
                 "pivot overflow after {pivots} pivots at cell {row} {column}"
             ),
             TopFault::Spent(limit) => write!(f, "pivot limit {limit} spent"),
+            TopFault::Period(step, left, right) => write!(
+                f,
+                "period overflow at {step}: {left} and {right}"
+            ),
             TopFault::LongCertificate => write!(f, "too long: certificate"),
             TopFault::CertificateLine(number) => write!(f, "certificate: line {number}"),
             TopFault::NegativePrice(row) => write!(f, "certificate: price {row} negative"),
@@ -176,6 +179,7 @@ impl From<PlanFault> for TopFault<'_> {
                 column,
             } => TopFault::Pivot(pivots, row, column),
             PlanFault::Spent { limit } => TopFault::Spent(limit),
+            PlanFault::Period { step, left, right } => TopFault::Period(step, left, right),
             PlanFault::NoMemory => TopFault::NoMemory,
         }
     }
@@ -208,10 +212,11 @@ impl TopFault<'_> {
             | TopFault::TargetTwice(_)
             | TopFault::SelfLink(_)
             | TopFault::TwiceLinked(_)
-            | TopFault::BadRatio(..)
-            | TopFault::LinksNotYet => Status::Platform,
-            TopFault::Unit(..) | TopFault::Pivot(..) | TopFault::CheckOverflow(_) =>
-                Status::Overflow,
+            | TopFault::BadRatio(..) => Status::Platform,
+            TopFault::Unit(..)
+            | TopFault::Pivot(..)
+            | TopFault::Period(..)
+            | TopFault::CheckOverflow(_) => Status::Overflow,
             TopFault::Spent(_) => Status::Spent,
             TopFault::LongCertificate => Status::TooLong,
             TopFault::CertificateLine(_)

@@ -10,7 +10,6 @@ ghost use Rattle.steady_top.specs.Answers.{IsMade, IsCauseFor};
 ghost use Rattle.steady_top.specs.Planned.{IsPlatformRead, IsPlatformFault, IsCertificateRead, IsCertificateFault, IsProved, IsJudged};
 
 use crate::fault::TopFault;
-use crate::lone::{lone_master_table, uses_links};
 use dual_checker::{CertificateFault, Verdict, print_certificate, read_certificate};
 use linear_program::{Certificate, Lp};
 use listed::NoMemory;
@@ -45,7 +44,7 @@ fn read_timed<'a, F: Files>(
     Ok(timed(alloc, platform)?)
 }
 
-/// The plan text of the platform in the named file, where no link is of use to it.
+/// The plan text of the platform in the named file.
 pub fn plan<'a, F: Files>(
     alloc: Global,
     files: &mut F,
@@ -54,11 +53,8 @@ pub fn plan<'a, F: Files>(
     ensures { MatchResult result (λ text. IsMade (Command.plan name.now) (F.state files.old) (F.state files.new) (string_bytes text)) (λ fault. IsCauseFor (Command.plan name.now) (F.state files.old) (F.state files.new) (refusal_of fault)) }
 {
     let timed = read_timed(alloc, files, name)?;
-    if uses_links(timed.platform()) {
-        return Err(TopFault::LinksNotYet);
-    }
-    let table = lone_master_table(alloc, &timed)?;
-    Ok(print_plan(alloc, &timed, Series::Tasking, &table)?)
+    let plan = planner::plan(alloc, &timed, Series::Tasking, MOST_PIVOTS)?;
+    Ok(print_plan(alloc, &timed, Series::Tasking, &plan.table)?)
 }
 
 /// The certificate of the best rate of the platform in the named file.

@@ -4,14 +4,34 @@ use crate::fault::TopFault;
 use crate::status::Status;
 use crate::top::steady;
 use outside_io::{MemoryFiles, MemorySink};
+use planner::PeriodStep;
 use platforms::{
-    CUT_SHORT, FINE_TIMES, FRACTION, LONE_MASTER, ONE_WORKER, ONLY_BACK, OUT_OF_REACH, TWO_WORKERS,
+    CHAIN, CLUSTER, CUT_SHORT, DIAMOND, FINE_TIMES, FRACTION, HALVES, LONE_MASTER, ONE_WORKER,
+    ONLY_BACK, OUT_OF_REACH, SIX_WORKERS, TWO_WORKERS, WAY_BACK,
 };
 use std::alloc::Global;
 use std::test::Fail;
 
 const LONE_PLAN: &str =
     "plan 1 tasking\nunit 1\nperiod 2\ntasks 1\ndepth 0\nrate 1/2\nroute 0 1 m\nslot 2\nend\n";
+
+const ONE_WORKER_PLAN: &str =
+    "plan 1 tasking\nunit 1\nperiod 3\ntasks 1\ndepth 1\nrate 1/3\nroute 0 1 m w\nslot 3 0:1\nend\n";
+
+const TWO_WORKERS_PLAN: &str =
+    "plan 1 tasking\nunit 1\nperiod 3\ntasks 2\ndepth 1\nrate 2/3\nroute 0 1 m u\nroute 1 1 m v\nslot 1 0:1\nslot 2 1:1\nend\n";
+
+const HALVES_PLAN: &str =
+    "plan 1 tasking\nunit 2\nperiod 3\ntasks 1\ndepth 1\nrate 2/3\nroute 0 1 m w\nslot 1 0:1\nslot 2\nend\n";
+
+const CHAIN_PLAN: &str =
+    "plan 1 tasking\nunit 1\nperiod 2\ntasks 2\ndepth 2\nrate 1/1\nroute 0 1 m a\nroute 1 1 m a b\nslot 1 0:1 2:1\nslot 1 1:1\nend\n";
+
+const DIAMOND_PLAN: &str =
+    "plan 1 tasking\nunit 1\nperiod 40\ntasks 16\ndepth 2\nrate 2/5\nroute 0 4 s a d\nroute 1 12 s b d\nslot 4 0:4 1:1\nslot 12 1:3 2:4\nslot 24 2:8 3:12\nend\n";
+
+const CLUSTER_PLAN: &str =
+    "plan 1 tasking\nunit 2\nperiod 8\ntasks 8\ndepth 2\nrate 2/1\nroute 0 1 front\nroute 1 2 front r1\nroute 2 1 front r2\nroute 3 4 front r1 g1\nslot 4 0:2 2:2 3:4\nslot 2 2:2\nslot 2 1:1\nend\n";
 
 const FRACTION_PLAN: &str =
     "plan 1 tasking\nunit 2\nperiod 3\ntasks 1\ndepth 0\nrate 2/3\nroute 0 1 m\nslot 3\nend\n";
@@ -102,10 +122,17 @@ fn refuses_words(rt: HostRuntime) -> Result<(), Fail> {
 }
 
 #[test]
-fn plans_where_no_link_is_used(rt: HostRuntime) -> Result<(), Fail> {
+fn plans_platforms(rt: HostRuntime) -> Result<(), Fail> {
     let alloc = rt.alloc();
     for (text, plan) in [
         (LONE_MASTER, LONE_PLAN),
+        (ONE_WORKER, ONE_WORKER_PLAN),
+        (WAY_BACK, ONE_WORKER_PLAN),
+        (TWO_WORKERS, TWO_WORKERS_PLAN),
+        (HALVES, HALVES_PLAN),
+        (CHAIN, CHAIN_PLAN),
+        (DIAMOND, DIAMOND_PLAN),
+        (CLUSTER, CLUSTER_PLAN),
         (FRACTION, FRACTION_PLAN),
         (OUT_OF_REACH, IDLE_PLAN),
         (ONLY_BACK, ONLY_BACK_PLAN),
@@ -120,12 +147,13 @@ fn plans_where_no_link_is_used(rt: HostRuntime) -> Result<(), Fail> {
 #[test]
 fn refuses_files(rt: HostRuntime) -> Result<(), Fail> {
     let alloc = rt.alloc();
-    let no_links = "error: platform: links not built\n";
     let overflow = "error: ticks overflow: lcm of 999997000002 and 999997\n";
+    let period =
+        "error: period overflow at denominators: 333327333372666550666818999930 and 999991\n";
     let cannot_read = "error: cannot read nofile\n";
     for (line, text, status, written) in [
-        ("plan|P", ONE_WORKER, Status::Platform, no_links),
         ("plan|P", FINE_TIMES, Status::Overflow, overflow),
+        ("plan|P", SIX_WORKERS, Status::Overflow, period),
         ("plan|nofile", LONE_MASTER, Status::ReadFault, cannot_read),
     ] {
         let (ended, out) = answer(alloc, line, text.as_bytes(), &[], 4096, &[])?;
@@ -354,7 +382,7 @@ fn reads_the_platform_before_the_certificate(rt: HostRuntime) -> Result<(), Fail
 }
 
 #[test]
-fn names_pivots(rt: HostRuntime) -> Result<(), Fail> {
+fn names_pivots_and_periods(rt: HostRuntime) -> Result<(), Fail> {
     for (fault, status, written) in [
         (
             TopFault::Pivot(7, 1, 2),
@@ -365,6 +393,16 @@ fn names_pivots(rt: HostRuntime) -> Result<(), Fail> {
             TopFault::Spent(100000),
             Status::Spent,
             "error: pivot limit 100000 spent\n",
+        ),
+        (
+            TopFault::Period(PeriodStep::Costs, 6, 35),
+            Status::Overflow,
+            "error: period overflow at costs: 6 and 35\n",
+        ),
+        (
+            TopFault::Period(PeriodStep::Product, 6, 35),
+            Status::Overflow,
+            "error: period overflow at product: 6 and 35\n",
         ),
     ] {
         assert_eq!(rt; fault.status(), status);

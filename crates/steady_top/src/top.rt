@@ -4,7 +4,7 @@ ghost use Rattle.std.specs.Prelude.{◌≡◌, ◌⊎◌, ℕ, List, None, Optio
 ghost use Rattle.outside_io.specs.Faults.{Rose};
 ghost use Rattle.steady_top.specs.Faults.{refusal_of};
 ghost use Rattle.steady_top.specs.Refusals.{Refusal, status_of, usage, cannot_read, no_memory, error_line};
-ghost use Rattle.steady_top.specs.Outcomes.{command_of, outcome_of, prints, refuses};
+ghost use Rattle.steady_top.specs.Outcomes.{command_of, outcome_of, refuses, IsText};
 ghost use Rattle.steady_top.specs.Answers.{AreToldAs, IsAnswer, IsCause, IsPrinted, IsRefused, IsRefusedWith, IsCutShort, IsResponse, IsOneOf, Ends};
 
 use crate::fault::TopFault;
@@ -87,7 +87,7 @@ pub fn steady<F: Files, S: Sink>(
     ensures write_fault { result ≡ Status.WriteFault → IsCutShort (map string_bytes words.now) (F.state files.old) (F.state files.new) (S.state out.old) (S.state out.new) }
 
     // Where the files tell what they hold and nothing failed, the answer is the one that the definitions give, or want of memory.
-    ensures complete { (holds : List ℕ → Option (List ℕ)) (text : List ℕ) → AreToldAs (F.state files.old) holds → outcome_of (map string_bytes words.now) holds ≡ prints text
+    ensures complete { (holds : List ℕ → Option (List ℕ)) → AreToldAs (F.state files.old) holds → IsText (outcome_of (map string_bytes words.now) holds)
         → ¬ (Rose (F.state files.old).faults (F.state files.new).faults) → ¬ (Rose (S.state out.old).faults (S.state out.new).faults)
         → (result ≡ Status.Done) ⊎ (result ≡ Status.NoMemory) }
     ensures exact { (holds : List ℕ → Option (List ℕ)) (refusal : Refusal) → AreToldAs (F.state files.old) holds → outcome_of (map string_bytes words.now) holds ≡ refuses refusal

@@ -1,7 +1,6 @@
 -- The cells of a row by their columns.
-use Rattle.std.proofs.Common.{◌≡◌, ◌≢◌, ℕ, zero, suc, ◌+◌, ◌<◌, ◌≤◌, ◌^◌, Bool, true, false, not, cond, nat_eq, nat_lt, nat_abs, List, [], ◌∷◌, ◌++◌, length, map, All, ℤ, pos, negsuc, refl, sym, ap, ◌∙◌, subst, arith, inl, inr, add-one}
+use Rattle.std.proofs.Common.{◌≡◌, ◌≢◌, ℕ, zero, suc, ◌+◌, ◌<◌, ◌^◌, Bool, true, false, not, cond, nat_eq, nat_lt, nat_abs, List, [], ◌∷◌, ◌++◌, length, map, All, ℤ, pos, negsuc, refl, sym, ap, ◌∙◌, subst, arith, inl, inr, add-one}
 use Rattle.std.specs.List.Sorted.{IsStrictlyIncreasing}
-use Rattle.std.proofs.lemmas.Int.{ints}
 use Rattle.std.proofs.lemmas.Bool.{cases_eq, cases_lt, eq-eqb, ne_eqb, lt-ltb, le-ltb}
 use Rattle.std.proofs.lemmas.List.{append-nil, length-append, map_push, get_or_append_left, get_or-append-add}
 use Rattle.std.proofs.lemmas.List.Elements.{All-head, All-tail, All-nil, All-cons, All-push}

@@ -1,13 +1,12 @@
 -- The counts of a schedule are a feasible point.
-use Rattle.std.proofs.Common.{◌≡◌, ℕ, zero, suc, ◌+◌, ◌*◌, ◌/◌, ◌<◌, ◌≤◌, Bool, true, false, not, ◌&&◌, cond, nat_eq, nat_le, List, [], ◌∷◌, ◌++◌, length, get_or, All, count_by, sum_by, Option, Some, None, IsSome, slice_index_or, ℤ, pos, ◌+ℤ◌, ◌-ℤ◌, ◌*ℤ◌, ◌≤ℤ◌, refl, sym, ap, ◌∙◌, arith}
+use Rattle.std.proofs.Common.{◌≡◌, ℕ, zero, suc, ◌+◌, ◌*◌, ◌/◌, ◌<◌, ◌≤◌, Bool, true, false, not, ◌&&◌, cond, nat_eq, List, [], ◌∷◌, length, get_or, All, count_by, sum_by, Option, None, IsSome, slice_index_or, ℤ, pos, ◌+ℤ◌, ◌-ℤ◌, ◌*ℤ◌, ◌≤ℤ◌, refl, ap, ◌∙◌, arith}
 use Rattle.std.proofs.Math.IntN.{*ℤ-zero, zero-*ℤ}
 use Rattle.std.proofs.lemmas.Int.{ints}
 use Rattle.std.proofs.lemmas.Bool.{eqb-true, le-leb}
 use Rattle.std.proofs.lemmas.List.{length-map}
 use Rattle.std.proofs.lemmas.List.Sums.{sum_by-cons}
-use Rattle.std.proofs.lemmas.List.Elements.{All-head, All-tail, All-append}
-use Rattle.linear_program.specs.Sums.{sum_below}
-use Rattle.linear_program.specs.Programmes.{RowView, row_value, gain_value, gain_at}
+use Rattle.std.proofs.lemmas.List.Elements.{All-append}
+use Rattle.linear_program.specs.Programmes.{RowView, row_value}
 use Rattle.linear_program.specs.Duality.{IsFeasible}
 use Rattle.linear_program.proofs.Integers.{times_keeps_order, times_sum}
 use Rattle.linear_program.proofs.Sums.{same_sum}
@@ -17,19 +16,17 @@ use Rattle.schedule_model.specs.declared.schedule.Op.{Op}
 use Rattle.schedule_model.specs.declared.schedule.Op.TheVariants.{Send, Compute}
 use Rattle.schedule_model.specs.declared.schedule.Series.TheVariants.{Tasking}
 use Rattle.schedule_model.specs.declared.schedule.Schedule.{Schedule}
-use Rattle.schedule_model.specs.Operations.{start_of, end_of, duration_of, time_of, cost_of, sender_of, receiver_of, sends_from, sends_to, computes_at, is_compute, has_started, has_ended}
-use Rattle.schedule_model.specs.Validity.{IsInRange, IsValid, completed}
+use Rattle.schedule_model.specs.Operations.{start_of, duration_of, time_of, cost_of, sender_of, receiver_of, sends_from, sends_to, computes_at, has_started, has_ended}
+use Rattle.schedule_model.specs.Validity.{IsInRange, IsValid}
 use Rattle.schedule_model.specs.Throughput.{send_ticks, receive_ticks, compute_ticks}
 use Rattle.schedule_model.proofs.Ports.{sends_fit, receives_fit, computes_fit}
 use Rattle.schedule_model.proofs.PortUse.{count_alike}
 use Rattle.schedule_model.proofs.Stocks.{count_fewer}
-use Rattle.tasking_program.specs.declared.columns.Column.{Column}
-use Rattle.tasking_program.specs.declared.columns.Column.TheVariants.{Computes, Flows}
 use Rattle.tasking_program.specs.declared.rows.Limit.{Limit}
 use Rattle.tasking_program.specs.declared.rows.Limit.TheVariants.{Compute as Processor, Send as SendPort, Receive as ReceivePort, Supply}
-use Rattle.tasking_program.specs.Columns.{each_where, computes, carries, columns_of, column_at}
+use Rattle.tasking_program.specs.Columns.{computes, carries, columns_of, column_at}
 use Rattle.tasking_program.specs.Rows.{where_true, cell_of, side_of, is_limited, row_of, rows_of}
-use Rattle.tasking_program.specs.Programme.{gain_of, tasking_programme}
+use Rattle.tasking_program.specs.Programme.{tasking_programme}
 use Rattle.tasking_program.specs.Counts.{counts_of}
 use Rattle.tasking_program.proofs.Listings.{sum_over, each_all}
 use Rattle.tasking_program.proofs.Cells.{cell_there}

@@ -4,3 +4,5 @@ pub mod Feasible
 pub mod Bounded
 pub mod Rates
 pub mod Cells
+pub mod SteadyPoints
+pub mod LookUps

@@ -1,10 +1,10 @@
 -- Lists of the values of a function at the numbers that pass.
-use Rattle.std.proofs.Common.{◌≡◌, ℕ, zero, suc, ◌+◌, ◌<◌, ◌≤◌, Bool, true, false, cond, List, [], ◌∷◌, ◌++◌, length, get_or, slice_index_or, All, ℤ, pos, ◌+ℤ◌, refl, sym, ap, ◌∙◌, arith, add-one}
+use Rattle.std.proofs.Common.{◌≡◌, ℕ, zero, suc, ◌+◌, ◌<◌, ◌≤◌, Bool, true, false, cond, List, [], ◌∷◌, ◌++◌, length, slice_index_or, All, ℤ, pos, ◌+ℤ◌, refl, ap, ◌∙◌, arith, add-one}
 use Rattle.std.proofs.lemmas.Int.{ints}
 use Rattle.std.proofs.lemmas.List.{length-append, append_assoc}
 use Rattle.std.proofs.lemmas.List.Elements.{All-append, All-cons, All-nil}
 use Rattle.linear_program.specs.Sums.{sum_below}
-use Rattle.linear_program.proofs.Sums.{first_sum, same_sum}
+use Rattle.linear_program.proofs.Sums.{first_sum}
 use Rattle.tasking_program.specs.Columns.{each_where}
 use Rattle.tasking_program.specs.Rows.{where_true}
 

@@ -1,5 +1,5 @@
 -- What the counts of a schedule gain, and why prices bound every rate.
-use Rattle.std.proofs.Common.{◌≡◌, ℕ, ◌+◌, ◌*◌, ◌/◌, ◌<◌, ◌≤◌, Bool, true, false, cond, List, [], ◌∷◌, length, get_or, slice_index_or, All, count_by, Option, Some, None, IsSome, ℤ, pos, ◌+ℤ◌, ◌*ℤ◌, ◌≤ℤ◌, refl, sym, ap, ◌∙◌, arith}
+use Rattle.std.proofs.Common.{◌≡◌, ℕ, ◌*◌, ◌/◌, ◌≤◌, Bool, true, false, cond, List, [], ◌∷◌, length, slice_index_or, All, count_by, Option, Some, None, IsSome, ℤ, pos, ◌*ℤ◌, ◌≤ℤ◌, refl, ap, ◌∙◌, arith}
 use Rattle.std.specs.Option.{is_some}
 use Rattle.std.proofs.Math.IntN.{*ℤ_comm}
 use Rattle.std.proofs.Math.Nat.{mul_assoc, mul_comm, mul-mul-mul_comm, mul-le-mul_left}
@@ -7,7 +7,7 @@ use Rattle.std.proofs.lemmas.Int.{ints}
 use Rattle.std.proofs.lemmas.List.{get_or-map}
 use Rattle.std.proofs.lemmas.List.Sums.{sum_by-cons}
 use Rattle.std.proofs.lemmas.List.Elements.{All-head, All-tail}
-use Rattle.linear_program.specs.Programmes.{gain_value, gain_at}
+use Rattle.linear_program.specs.Programmes.{gain_value}
 use Rattle.linear_program.specs.Duality.{priced_sides, IsDualFeasible}
 use Rattle.linear_program.proofs.Integers.{times_keeps_order}
 use Rattle.linear_program.proofs.Sums.{same_sum}
@@ -21,8 +21,8 @@ use Rattle.schedule_model.specs.Operations.{is_compute}
 use Rattle.schedule_model.specs.Validity.{IsInRange, IsValid, completed}
 use Rattle.schedule_model.specs.Throughput.{IsUpperRate}
 use Rattle.schedule_model.proofs.Durations.{whole_quotient}
-use Rattle.tasking_program.specs.declared.columns.Column.TheVariants.{Computes, Flows}
-use Rattle.tasking_program.specs.Columns.{computes, carries, columns_of, column_at}
+use Rattle.tasking_program.specs.declared.columns.Column.TheVariants.{Computes}
+use Rattle.tasking_program.specs.Columns.{carries, columns_of, column_at}
 use Rattle.tasking_program.specs.Rows.{where_true}
 use Rattle.tasking_program.specs.Programme.{gain_of, tasking_programme}
 use Rattle.tasking_program.specs.Counts.{counts_of}

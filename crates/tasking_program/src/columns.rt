@@ -60,8 +60,8 @@ fn push_flows(columns: &mut Listed<Column>, timed: &Timed) -> Result<(), NoMemor
     Ok(())
 }
 
-/// A rate for each node that computes, in order, and then a flow for each link that a plan can use.
-pub(crate) fn columns(alloc: Global, timed: &Timed) -> Result<Listed<Column>, NoMemory>
+/// What the columns stand for: a rate for each node that computes, in order, and then a flow for each link that a plan can use.
+pub fn columns_of(alloc: Global, timed: &Timed) -> Result<Listed<Column>, NoMemory>
     ensures value { IfOk result (λ columns. columns ≡ columns_of timed.now) }
     ensures exist { IfOk result (All (Exists timed.now)) }
     ensures few { IfOk result (λ columns. length columns ≤ 160) }

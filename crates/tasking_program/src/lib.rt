@@ -8,5 +8,9 @@ mod rows;
 #[cfg(test)]
 mod tests;
 
-pub use laws::{counts_are_feasible, prices_bound_rates, programmes_are_bounded};
+pub use columns::{Column, columns_of};
+pub use laws::{
+    columns_are_looked_up, counts_are_feasible, points_are_steady, prices_bound_rates,
+    programmes_are_bounded,
+};
 pub use programme::tasking_lp;

@@ -3,7 +3,7 @@
 ghost use Rattle.std.specs.Prelude.{◌≡◌, ◌<◌, ◌^◌, All, length, map, nat_abs, IfOk};
 ghost use Rattle.tasking_program.specs.Programme.{gain_of, tasking_programme};
 
-use crate::columns::{Column, columns};
+use crate::columns::{Column, columns_of};
 use crate::rows::{Limit, push_rows};
 use linear_program::Lp;
 use listed::{Listed, NoMemory};
@@ -44,7 +44,7 @@ pub fn tasking_lp(alloc: Global, timed: &Timed) -> Result<Lp, NoMemory>
     ensures { IfOk result (λ lp. lp ≡ tasking_programme timed.now) }
 {
     timed.platform().known();
-    let columns = columns(alloc, timed)?;
+    let columns = columns_of(alloc, timed)?;
     let columns = columns.as_slice();
     let mut rows = Listed::new(alloc);
     push_rows(alloc, &mut rows, timed, columns, Limit::Compute)?;

@@ -1,4 +1,7 @@
-use crate::{counts_are_feasible, prices_bound_rates, programmes_are_bounded, tasking_lp};
+use crate::{
+    Column, columns_are_looked_up, columns_of, counts_are_feasible, points_are_steady,
+    prices_bound_rates, programmes_are_bounded, tasking_lp,
+};
 use platform_file::{read_platform, timed};
 use std::test::Fail;
 
@@ -28,8 +31,12 @@ fn states_rows_of_ports_and_supplies(rt: HostRuntime) -> Result<(), Fail> {
         assert_eq!(rt; row.cells(), cells);
         assert_eq!(rt; row.rhs(), side);
     }
+    let columns = [Column::Computes(0), Column::Computes(1), Column::Flows(0)];
+    assert_eq!(rt; columns_of(alloc, &timed)?.as_slice(), columns.as_slice());
     counts_are_feasible();
     programmes_are_bounded();
     prices_bound_rates();
+    points_are_steady();
+    columns_are_looked_up();
     Ok(())
 }

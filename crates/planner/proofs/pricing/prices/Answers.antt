@@ -1,4 +1,4 @@
-use Rattle.std.proofs.Common.{rules, ◌≡◌, nat_abs}
+use Rattle.std.proofs.Common.{rules, nat_abs}
 use Rattle.linear_program.specs.Certificates.{IsCertificate}
 use Rattle.platform_file.specs.Ticks.{IsTimed}
 use Rattle.tasking_program.specs.Programme.{tasking_programme}

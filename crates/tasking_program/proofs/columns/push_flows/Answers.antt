@@ -1,5 +1,4 @@
-use Rattle.std.proofs.Common.{rules, ◌≡◌, ◌∙◌, true, false, sym}
-use Rattle.std.proofs.lemmas.List.{append-nil}
+use Rattle.std.proofs.Common.{rules, ◌≡◌, true, false}
 use Rattle.tasking_program.specs.declared.columns.Column.TheVariants.{Flows}
 use Rattle.tasking_program.specs.Columns.{carries}
 use Rattle.tasking_program.proofs.Listings.{pushed}

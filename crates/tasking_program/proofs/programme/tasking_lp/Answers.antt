@@ -1,4 +1,4 @@
-use Rattle.std.proofs.Common.{rules, ◌≡◌, ◌<◌, ◌≤◌, ◌+◌, ◌^◌, ◌++◌, All, length, map, nat_abs, ℕ, List, ap, arith, ◌∙◌}
+use Rattle.std.proofs.Common.{rules, ◌≡◌, ◌≤◌, ◌++◌, length, map, List, ap, arith, ◌∙◌}
 use Rattle.std.proofs.lemmas.List.{length-map, append_assoc}
 use Rattle.tasking_program.specs.declared.rows.Limit.TheVariants.{Compute, Send, Receive, Supply}
 use Rattle.tasking_program.specs.Columns.{columns_of}

@@ -1,6 +1,5 @@
-use Rattle.std.proofs.Common.{rules, ◌≡◌, ◌<◌, ◌^◌, ◌++◌, ℕ, ℤ, nat_abs, true, false, [], ◌∷◌, SFits}
+use Rattle.std.proofs.Common.{rules, ◌≡◌, ◌<◌, ◌^◌, ℕ, ℤ, nat_abs, true, false, SFits}
 use Rattle.std.specs.Int.{w128}
-use Rattle.std.proofs.lemmas.Int.{to_z-of_z}
 use Rattle.tasking_program.specs.Columns.{column_at}
 use Rattle.tasking_program.specs.Rows.{cell_of}
 use Rattle.tasking_program.proofs.Cells.{filled, cells_grow}

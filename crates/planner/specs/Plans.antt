@@ -1,0 +1,59 @@
+-- What a plan is, and why a platform has none.
+use Rattle.std.specs.Prelude.{◌≡◌, ℕ, List, codes, Option, Some, None, option_and_then, Result, Ok, Err}
+use Rattle.platform_file.specs.Ticks.{TimedView}
+use Rattle.linear_program.specs.Starts.{start_table}
+use Rattle.linear_program.specs.declared.certificate.Optimum.{Optimum}
+use Rattle.exact_simplex.specs.Answers.{answer_of}
+use Rattle.exact_simplex.specs.Bland.{bland_run}
+use Rattle.exact_simplex.specs.declared.fault.SolveFault.{SolveFault}
+use Rattle.tasking_program.specs.Columns.{columns_of}
+use Rattle.tasking_program.specs.Programme.{tasking_programme}
+use Rattle.planner.specs.declared.fault.PlanFault.{PlanFault}
+use Rattle.planner.specs.declared.numbers.PeriodStep.{PeriodStep}
+use Rattle.planner.specs.declared.numbers.PeriodStep.TheVariants.{Denominators, Costs, Product}
+use Rattle.planner.specs.declared.numbers.Scale.{Scale}
+use Rattle.planner.specs.declared.numbers.TableFault.{TableFault}
+use Rattle.planner.specs.declared.numbers.TableFault.TheVariants as table
+use Rattle.planner.specs.declared.planned.Plan.{Plan}
+use Rattle.planner.specs.Numbers.{scale_of}
+use Rattle.planner.specs.Making.{IsTableOf}
+
+-- the word for a step
+abbrev pub step_text : PeriodStep → List ℕ
+step_text Denominators = codes "denominators"
+step_text Costs = codes "costs"
+step_text Product = codes "product"
+
+-- why there is no plan where the programme isn't solved
+abbrev pub plan_fault : SolveFault → PlanFault
+plan_fault (SolveFault.Overflow pivots row column) = PlanFault.Pivot pivots row column
+plan_fault (SolveFault.Spent limit) = PlanFault.Spent limit
+plan_fault SolveFault.NoMemory = PlanFault.NoMemory
+
+-- why there is none where the solution has no table
+abbrev pub period_fault : TableFault → PlanFault
+period_fault (table.Period step left right) = PlanFault.Period step left right
+period_fault table.NoMemory = PlanFault.NoMemory
+
+-- the answer at the end of the run by Bland's rule on a platform's programme, with so many pivots allowed
+abbrev pub solution_of : ℕ → TimedView → Option (Result Optimum SolveFault)
+solution_of limit t = answer_of limit (bland_run limit (start_table (tasking_programme t)))
+
+-- the fault of a scale
+abbrev pub fault_of_scale : Result Scale TableFault → Option PlanFault
+fault_of_scale (Ok scale) = None
+fault_of_scale (Err fault) = Some (period_fault fault)
+
+-- the fault of a solution: there is none, or its period passes the bound
+abbrev pub fault_of_answer : TimedView → Result Optimum SolveFault → Option PlanFault
+fault_of_answer t (Ok optimum) = fault_of_scale (scale_of t (columns_of t) optimum.values)
+fault_of_answer t (Err fault) = Some (plan_fault fault)
+
+-- why a platform has no plan, if it has none
+abbrev pub fault_of : ℕ → TimedView → Option PlanFault
+fault_of limit t = option_and_then (fault_of_answer t) (solution_of limit t)
+
+-- a plan: the solution at the end of the run, and its table
+pub record IsPlan (limit : ℕ) (t : TimedView) (plan : Plan) : Type 0 where
+  pub solved : solution_of limit t ≡ Some (Ok plan.optimum)
+  pub made : IsTableOf t plan.optimum.values plan.table

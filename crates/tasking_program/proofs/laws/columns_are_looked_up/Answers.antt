@@ -1,0 +1,5 @@
+use Rattle.tasking_program.proofs.LookUps.{looked_up}
+use Rattle.tasking_program.proofs.laws.columns_are_looked_up.Goals as goal
+
+pub returns : goal.returns
+returns c = looked_up
