@@ -6,7 +6,8 @@ use Rattle.outside_io.specs.Sinks.{SinkView}
 use Rattle.steady_top.specs.declared.status.Status.{Status}
 use Rattle.steady_top.specs.declared.status.Status.TheVariants as status
 use Rattle.steady_top.specs.Refusals.{Reason, limit, not_toml, bad_field, twice_named, unknown, target_is_master, target_twice, self_link, twice_linked, bad_ratio, unit, pivot, spent, period, long_certificate, certificate_line, negative_price, uncovered_column, passed_value, check_overflow, Refusal, usage, refused, cannot_read, no_memory, reason_status, status_of, error_line}
-use Rattle.steady_top.specs.Outcomes.{Command, check, first_name, second_name, command_of, Outcome, refuses, IsPrint, IsText, check_of_name, outcome_for, outcome_of_command, outcome_of}
+use Rattle.command_words.specs.Words.{Command, check}
+use Rattle.steady_top.specs.Outcomes.{first_name, second_name, command_of, Outcome, refuses, IsPrint, IsText, check_of_name, outcome_for, outcome_of_command, outcome_of}
 use Rattle.steady_top.specs.Answers.{MayBe, IsToldAs, AreToldAs, ComesTo, IsSecondFault, IsCauseFor, IsCause, IsPrinted, IsRefused, IsRefusedWith, IsCutShort, IsResponse}
 
 -- the statuses of refusals of what was read
@@ -121,7 +122,7 @@ second_absent words before after command name given fault none holds told =
     let nothing : holds name ≡ None = holds_nothing before holds name none told in
     let first : holds fault.first ≡ Some fault.platform.bytes = same_file (before.held fault.first) (holds fault.first) (Some fault.platform.bytes) (told fault.first) fault.platform.file in
     ap (outcome_of_command holds) (given ∙ ap Some fault.is_check)
-    ∙ ap (λ file. outcome_for (check fault.first name) file (holds name)) first
+    ∙ ap (λ file. outcome_for (check fault.first name fault.series) file (holds name)) first
     ∙ fault.short (check_of_name name (holds name))
     ∙ ap (λ file. check_of_name name file fault.timed) nothing
 

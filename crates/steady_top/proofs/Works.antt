@@ -24,11 +24,13 @@ use Rattle.planner.specs.Prices.{prices_of, IsBestCertificate}
 use Rattle.planner.specs.Plans.{fault_of_scale, fault_of_answer, fault_of, IsPlan}
 use Rattle.period_table.specs.Best.{IsBest}
 use Rattle.plan_text.specs.Texts.{plan_text}
+use Rattle.schedule_model.specs.declared.schedule.Series.{Series}
 use Rattle.schedule_model.specs.declared.schedule.Series.TheVariants.{Tasking}
 use Rattle.schedule_model.specs.Throughput.{IsUpperRate}
 use Rattle.dual_checker.specs.Texts.{certificate_text}
 use Rattle.steady_top.specs.Refusals.{Reason, limit, not_toml, bad_field, twice_named, unknown, target_is_master, target_twice, self_link, twice_linked, bad_ratio, pivot, spent, period, long_certificate, Refusal, usage, refused, cannot_read, no_memory, platform_refusal, timed_refusal, plan_refusal}
-use Rattle.steady_top.specs.Outcomes.{Command, plan, prices, check, first_name, second_name, Outcome, prints, plans as plans_of, refuses, with_timed, with_platform, with_file, most_pivots, planned, priced, judged, judged_reading, check_of_file, upper_text, work_of}
+use Rattle.command_words.specs.Words.{Command, plan, prices, check}
+use Rattle.steady_top.specs.Outcomes.{first_name, second_name, Outcome, prints, plans as plans_of, refuses, with_timed, with_platform, with_file, planned, priced, judged, judged_reading, check_of_file, upper_text, work_of}
 use Rattle.steady_top.specs.Answers.{MayBe, ComesTo, IsMade, IsCauseFor}
 use Rattle.steady_top.specs.Planned.{IsPlatformRead, IsPlatformFault, IsCertificateRead, IsCertificateFault, IsProved, IsJudged}
 
@@ -131,37 +133,37 @@ refused_for command before middle after t second read told (plans.Period step le
 refused_for command before middle after t second read told plans.NoMemory refusal exact is = rw is tt
 
 -- why there are no prices is why the command is refused
-pub prices_fault : (before middle after : FilesView) (name : List ℕ) (t : TimedView) → IsPlatformRead before name middle t → (fault : PlanFault) (refusal : Refusal) →
-    ((fault ≡ plans.NoMemory → ⊥) → prices_of most_pivots t ≡ Some (Err fault)) → refusal ≡ plan_refusal fault → IsCauseFor (prices name) before after refusal
-prices_fault before middle after name t read fault refusal exact is =
-    refused_for (prices name) before middle after t (Some read.platform.bytes) read read.platform.file fault refusal (λ some. ap priced (exact some)) is
+pub prices_fault : (before middle after : FilesView) (name : List ℕ) (series : Series) (most : ℕ) (t : TimedView) → IsPlatformRead before name middle t → (fault : PlanFault) (refusal : Refusal) →
+    ((fault ≡ plans.NoMemory → ⊥) → prices_of most t ≡ Some (Err fault)) → refusal ≡ plan_refusal fault → IsCauseFor (prices name series most) before after refusal
+prices_fault before middle after name series most t read fault refusal exact is =
+    refused_for (prices name series most) before middle after t (Some read.platform.bytes) read read.platform.file fault refusal (λ some. ap priced (exact some)) is
 
 -- why there is no plan is why the command is refused
-pub plan_fault : (before middle after : FilesView) (name : List ℕ) (t : TimedView) → IsPlatformRead before name middle t → (fault : PlanFault) (refusal : Refusal) →
-    ((fault ≡ plans.NoMemory → ⊥) → fault_of most_pivots t ≡ Some fault) → refusal ≡ plan_refusal fault → IsCauseFor (plan name) before after refusal
-plan_fault before middle after name t read fault refusal exact is =
-    refused_for (plan name) before middle after t (Some read.platform.bytes) read read.platform.file fault refusal (λ some. ap (planned t) (exact some)) is
+pub plan_fault : (before middle after : FilesView) (name : List ℕ) (series : Series) (most : ℕ) (t : TimedView) → IsPlatformRead before name middle t → (fault : PlanFault) (refusal : Refusal) →
+    ((fault ≡ plans.NoMemory → ⊥) → fault_of most t ≡ Some fault) → refusal ≡ plan_refusal fault → IsCauseFor (plan name series most) before after refusal
+plan_fault before middle after name series most t read fault refusal exact is =
+    refused_for (plan name series most) before middle after t (Some read.platform.bytes) read read.platform.file fault refusal (λ some. ap (planned most t) (exact some)) is
 
 -- a plan that is found is what the command prints
-pub planned_is_made : (before after : FilesView) (name : List ℕ) (t : TimedView) (found : Plan) (text : List ℕ) → IsPlatformRead before name after t → IsPlan most_pivots t found → IsBest t Tasking found.table →
-    text ≡ plan_text t Tasking found.table → IsMade (plan name) before after text
-planned_is_made before after name t found text read made best is = record {
-  outcome = plans_of t;
-  comes = comes_of (plan name) before after t (Some read.platform.bytes) (plans_of t) read read.platform.file (ap (planned t) none);
+pub planned_is_made : (before after : FilesView) (name : List ℕ) (series : Series) (most : ℕ) (t : TimedView) (found : Plan) (text : List ℕ) → IsPlatformRead before name after t → IsPlan most t found → IsBest t Tasking found.table →
+    text ≡ plan_text t Tasking found.table → IsMade (plan name series most) before after text
+planned_is_made before after name series most t found text read made best is = record {
+  outcome = plans_of most t;
+  comes = comes_of (plan name series most) before after t (Some read.platform.bytes) (plans_of most t) read read.platform.file (ap (planned most t) none);
   due = record { plan = found; is = made; is_text = is };
   claim = record { timed = t; platform = read.platform; plan = found; made = made; best = best; is_plan = is };
   calm = read.calm;
 }
   where
-    none : fault_of most_pivots t ≡ None
+    none : fault_of most t ≡ None
     none = ap (option_and_then (fault_of_answer t)) made.solved ∙ ap fault_of_scale made.made.scaled
 
 -- prices that are found are what the command prints
-pub priced_is_made : (before after : FilesView) (name : List ℕ) (t : TimedView) (c : CertificateView) (text : List ℕ) → IsPlatformRead before name after t → prices_of most_pivots t ≡ Some (Ok c) → IsBestCertificate t c →
-    IsUpperRate t Tasking (nat_abs c.best * t.unit) (nat_abs c.scale) → text ≡ certificate_text Tasking c → IsMade (prices name) before after text
-priced_is_made before after name t c text read run best rate is = record {
+pub priced_is_made : (before after : FilesView) (name : List ℕ) (series : Series) (most : ℕ) (t : TimedView) (c : CertificateView) (text : List ℕ) → IsPlatformRead before name after t → prices_of most t ≡ Some (Ok c) → IsBestCertificate t c →
+    IsUpperRate t Tasking (nat_abs c.best * t.unit) (nat_abs c.scale) → text ≡ certificate_text Tasking c → IsMade (prices name series most) before after text
+priced_is_made before after name series most t c text read run best rate is = record {
   outcome = prints text;
-  comes = comes_of (prices name) before after t (Some read.platform.bytes) (prints text) read read.platform.file (ap priced run ∙ ap prints (sym is));
+  comes = comes_of (prices name series most) before after t (Some read.platform.bytes) (prints text) read read.platform.file (ap priced run ∙ ap prints (sym is));
   due = refl;
   claim = record { timed = t; platform = read.platform; certificate = c; run = run; best = best; rate = rate; is_certificate = is };
   calm = read.calm;
@@ -173,30 +175,31 @@ told_before : (before middle : FilesView) (name : List ℕ) (t : TimedView) (sec
 told_before before middle name t second file read may = subst (λ told. MayBe told file) (read.held second) may
 
 -- why a certificate isn't read is why the command is refused
-pub certificate_fault : (before middle after : FilesView) (name second : List ℕ) (t : TimedView) → IsPlatformRead before name middle t → (refusal : Refusal) →
-    IsCertificateFault t middle second after refusal → IsCauseFor (check name second) before after refusal
-certificate_fault before middle after name second t read usage fault = absurd fault
-certificate_fault before middle after name second t read (refused reason) fault =
-    comes_of (check name second) before middle t (Some fault.bytes) (refuses (refused reason)) read (told_before before middle name t second (Some fault.bytes) read fault.file) fault.outcome
-certificate_fault before middle after name second t read (cannot_read named) fault =
+pub certificate_fault : (before middle after : FilesView) (name second : List ℕ) (series : Series) (t : TimedView) → IsPlatformRead before name middle t → (refusal : Refusal) →
+    IsCertificateFault t middle second after refusal → IsCauseFor (check name second series) before after refusal
+certificate_fault before middle after name second series t read usage fault = absurd fault
+certificate_fault before middle after name second series t read (refused reason) fault =
+    comes_of (check name second series) before middle t (Some fault.bytes) (refuses (refused reason)) read (told_before before middle name t second (Some fault.bytes) read fault.file) fault.outcome
+certificate_fault before middle after name second series t read (cannot_read named) fault =
     inr (record {
       first = name;
-      is_check = ap (check name) (sym fault.same);
+      series = series;
+      is_check = ap (λ other. check name other series) (sym fault.same);
       timed = t;
       platform = read.platform;
       short = read.short;
       cause = subst (λ told. MayFail told before.faults after.faults) (read.held named) (subst (λ faults. MayFail (middle.held named) faults after.faults) read.calm (subst (λ name. HasCause middle name after) (sym fault.same) fault.cause));
       two_opens = fault.one_open ∙ ap (λ opens. raised opens 1) read.one_open;
     })
-certificate_fault before middle after name second t read no_memory fault = tt
+certificate_fault before middle after name second series t read no_memory fault = tt
 
 -- what the check of a certificate that was read says is what the command comes to
-module _ (before middle after : FilesView) (name second : List ℕ) (t : TimedView) (c : CertificateView) (read : IsPlatformRead before name middle t) (certificate : IsCertificateRead t middle second after c) where
-  comes_to : (outcome : Outcome) → judged_reading t (Ok c) ≡ outcome → ComesTo (check name second) before outcome
+module _ (before middle after : FilesView) (name second : List ℕ) (series : Series) (t : TimedView) (c : CertificateView) (read : IsPlatformRead before name middle t) (certificate : IsCertificateRead t middle second after c) where
+  comes_to : (outcome : Outcome) → judged_reading t (Ok c) ≡ outcome → ComesTo (check name second series) before outcome
   comes_to outcome is =
-      comes_of (check name second) before middle t (Some certificate.bytes) outcome read (told_before before middle name t second (Some certificate.bytes) read certificate.file) (certificate.short ∙ is)
+      comes_of (check name second series) before middle t (Some certificate.bytes) outcome read (told_before before middle name t second (Some certificate.bytes) read certificate.file) (certificate.short ∙ is)
 
-  pub proved_is_made : (text : List ℕ) → IsProved t c text → IsMade (check name second) before after text
+  pub proved_is_made : (text : List ℕ) → IsProved t c text → IsMade (check name second series) before after text
   proved_is_made text proved = record {
     outcome = prints text;
     comes = comes_to (prints text) (ap (judged t c) proved.proves ∙ ap prints (sym proved.is_line));
@@ -215,7 +218,7 @@ module _ (before middle after : FilesView) (name second : List ℕ) (t : TimedVi
     calm = certificate.calm ∙ read.calm;
   }
 
-  pub judged_is_cause : (refusal : Refusal) → IsJudged t c refusal → IsCauseFor (check name second) before after refusal
+  pub judged_is_cause : (refusal : Refusal) → IsJudged t c refusal → IsCauseFor (check name second series) before after refusal
   judged_is_cause usage fault = absurd fault
   judged_is_cause (refused reason) fault = comes_to (refuses (refused reason)) fault
   judged_is_cause (cannot_read named) fault = absurd fault

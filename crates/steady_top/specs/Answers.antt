@@ -6,6 +6,7 @@ use Rattle.outside_io.specs.Sinks.{SinkView, IsWholeWritten, IsCutOff}
 use Rattle.platform_file.specs.Platform.{PlatformView}
 use Rattle.platform_file.specs.Reading.{platform_of}
 use Rattle.platform_file.specs.Ticks.{TimedView, timed_of}
+use Rattle.schedule_model.specs.declared.schedule.Series.{Series}
 use Rattle.schedule_model.specs.declared.schedule.Series.TheVariants.{Tasking}
 use Rattle.schedule_model.specs.Throughput.{IsUpperRate}
 use Rattle.linear_program.specs.Certificates.{CertificateView}
@@ -22,7 +23,8 @@ use Rattle.steady_top.specs.declared.status.Status.TheVariants as status
 use Rattle.period_table.specs.Best.{IsBest}
 use Rattle.plan_text.specs.Texts.{plan_text}
 use Rattle.steady_top.specs.Refusals.{Reason, Refusal, usage, refused, cannot_read, no_memory, reason_status, status_of, error_line}
-use Rattle.steady_top.specs.Outcomes.{Command, plan, prices, check, first_name, second_name, command_of, most_pivots, upper_text, Outcome, refuses, IsPrint, with_file, outcome_for}
+use Rattle.command_words.specs.Words.{Command, plan, prices, check, audit}
+use Rattle.steady_top.specs.Outcomes.{first_name, second_name, command_of, upper_text, Outcome, refuses, IsPrint, with_file, outcome_for}
 
 -- this may be what a name holds of which that is told
 abbrev pub MayBe : Told → Option (List ℕ) → Type 0
@@ -57,20 +59,20 @@ pub record IsPlatformOf (before : FilesView) (name : List ℕ) (t : TimedView) :
   pub in_ticks : timed_of platform ≡ Ok t
 
 -- the text is the plan of the platform of the file's bytes, whose table is best
-pub record IsBestText (before : FilesView) (name text : List ℕ) : Type 0 where
+pub record IsBestText (pivots : ℕ) (before : FilesView) (name text : List ℕ) : Type 0 where
   pub timed : TimedView
   pub platform : IsPlatformOf before name timed
   pub plan : Plan
-  pub made : IsPlan most_pivots timed plan
+  pub made : IsPlan pivots timed plan
   pub best : IsBest timed Tasking plan.table
   pub is_plan : text ≡ plan_text timed Tasking plan.table
 
 -- the text is the certificate of the best rate of the platform of the file's bytes, which no schedule exceeds
-pub record IsPricedText (before : FilesView) (name text : List ℕ) : Type 0 where
+pub record IsPricedText (pivots : ℕ) (before : FilesView) (name text : List ℕ) : Type 0 where
   pub timed : TimedView
   pub platform : IsPlatformOf before name timed
   pub certificate : CertificateView
-  pub run : prices_of most_pivots timed ≡ Some (Ok certificate)
+  pub run : prices_of pivots timed ≡ Some (Ok certificate)
   pub best : IsBestCertificate timed certificate
   pub rate : IsUpperRate timed Tasking (nat_abs certificate.best * timed.unit) (nat_abs certificate.scale)
   pub is_certificate : text ≡ certificate_text Tasking certificate
@@ -89,9 +91,10 @@ pub record IsCheckedText (before : FilesView) (name second text : List ℕ) : Ty
 
 -- what a command's text claims
 abbrev pub IsClaim : Command → FilesView → List ℕ → Type 0
-IsClaim (plan name) before text = IsBestText before name text
-IsClaim (prices name) before text = IsPricedText before name text
-IsClaim (check name second) before text = IsCheckedText before name second text
+IsClaim (plan name series pivots) before text = IsBestText pivots before name text
+IsClaim (prices name series pivots) before text = IsPricedText pivots before name text
+IsClaim (check name second series) before text = IsCheckedText before name second text
+IsClaim (audit name other periods) before text = ⊥
 
 -- a command's text is due, where no call of the files failed, and is what it claims
 pub record IsMade (command : Command) (before after : FilesView) (text : List ℕ) : Type 0 where
@@ -110,7 +113,8 @@ pub record IsFirstFault (command : Command) (before after : FilesView) (name : L
 -- behind a platform that was read, the second file of a command couldn't be opened or read, in the second open of the call
 pub record IsSecondFault (command : Command) (before after : FilesView) (name : List ℕ) : Type 0 where
   pub first : List ℕ
-  pub is_check : command ≡ check first name
+  pub series : Series
+  pub is_check : command ≡ check first name series
   pub timed : TimedView
   pub platform : IsPlatformOf before first timed
   pub short : (next : TimedView → Outcome) → with_file next platform.bytes ≡ next timed

@@ -4,4 +4,3 @@ pub mod Answers
 pub mod Exits
 pub mod Faults
 pub mod Planned
-pub mod Words

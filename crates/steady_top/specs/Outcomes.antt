@@ -1,6 +1,8 @@
 -- What the program answers, for given words and contents of files (this project).
-use Rattle.std.specs.Prelude.{◌≡◌, ℕ, ◌+◌, Bool, false, ◌||◌, cond, List, [], ◌∷◌, ◌++◌, length, Option, Some, None, Result, Ok, Err, nat_eq, nat_lt, bytes_eq, codes, decimal}
+use Rattle.std.specs.Prelude.{◌≡◌, ℕ, ◌+◌, cond, List, ◌++◌, length, Option, Some, None, option_and_then, Result, Ok, Err, nat_lt, codes, decimal}
 use Rattle.std.specs.Fmt.{signed_decimal}
+use Rattle.command_words.specs.Words.{Command, plan, prices, check, audit}
+use Rattle.command_words.specs.Words.{command_of as given_by}
 use Rattle.platform_file.specs.declared.fault.PlatformFault.{PlatformFault}
 use Rattle.platform_file.specs.declared.fault.Kind.TheVariants.{Text}
 use Rattle.platform_file.specs.Platform.{PlatformView}
@@ -25,47 +27,35 @@ use Rattle.text_lines.specs.Lines.{line}
 use Rattle.plan_text.specs.Texts.{plan_text}
 use Rattle.steady_top.specs.Refusals.{Refusal, usage, refused, limit, long_certificate, certificate_line, negative_price, uncovered_column, passed_value, check_overflow, cannot_read, no_memory, platform_refusal, timed_refusal, plan_refusal}
 
--- `plan FILE`, `prices FILE` or `check FILE CERTIFICATE`
-pub data Command : Type 0 where
-  plan : List ℕ → Command
-  prices : List ℕ → Command
-  check : List ℕ → List ℕ → Command
+-- the commands that are built: all but `audit`
+abbrev pub built : Command → Option Command
+built (plan name series pivots) = Some (plan name series pivots)
+built (prices name series pivots) = Some (prices name series pivots)
+built (check name certificate series) = Some (check name certificate series)
+built (audit name other periods) = None
+
+-- the command that the words give, if any
+abbrev pub command_of : List (List ℕ) → Option Command
+command_of words = option_and_then built (given_by words)
 
 -- the file that a command opens first
 abbrev pub first_name : Command → List ℕ
-first_name (plan name) = name
-first_name (prices name) = name
-first_name (check name certificate) = name
+first_name (plan name series pivots) = name
+first_name (prices name series pivots) = name
+first_name (check name certificate series) = name
+first_name (audit name other periods) = name
 
 -- the file that it opens behind it, where it opens two
 abbrev pub second_name : Command → List ℕ
-second_name (plan name) = name
-second_name (prices name) = name
-second_name (check name certificate) = certificate
+second_name (plan name series pivots) = name
+second_name (prices name series pivots) = name
+second_name (check name certificate series) = certificate
+second_name (audit name other periods) = other
 
--- the word begins as an option does
-abbrev pub begins_with_dash : List ℕ → Bool
-begins_with_dash [] = false
-begins_with_dash (byte ∷ bytes) = nat_eq byte 45
-
--- the command of a word and a name
-abbrev pub command_of_one : List ℕ → List ℕ → Option Command
-command_of_one word name = cond (bytes_eq word (codes "plan")) (Some (plan name)) (cond (bytes_eq word (codes "prices")) (Some (prices name)) None)
-
--- the command of a word and two names
-abbrev pub command_of_two : List ℕ → List ℕ → List ℕ → Option Command
-command_of_two word name second = cond (bytes_eq word (codes "check")) (Some (check name second)) None
-
--- the command that the words give, if any: exactly its word and its names, none of which begins with `-`
-abbrev pub command_of : List (List ℕ) → Option Command
-command_of (word ∷ (name ∷ [])) = cond (begins_with_dash name) None (command_of_one word name)
-command_of (word ∷ (name ∷ (second ∷ []))) = cond (begins_with_dash name || begins_with_dash second) None (command_of_two word name second)
-command_of _ = None
-
--- the program prints these bytes, prints the plan of a platform, or refuses
+-- the program prints these bytes, prints the plan of a platform that is found with at most so many pivots, or refuses
 pub data Outcome : Type 0 where
   prints : List ℕ → Outcome
-  plans : TimedView → Outcome
+  plans : ℕ → TimedView → Outcome
   refuses : Refusal → Outcome
 
 -- what comes of a platform that is brought into ticks
@@ -87,35 +77,31 @@ abbrev pub with_name : (TimedView → Outcome) → List ℕ → Option (List ℕ
 with_name next name None = refuses (cannot_read name)
 with_name next name (Some bytes) = with_file next bytes
 
--- how many pivots are made at the most
-abbrev pub most_pivots : ℕ
-most_pivots = 100000
-
 -- a platform is planned, or there is a fault
-abbrev pub planned : TimedView → Option PlanFault → Outcome
-planned t None = plans t
-planned t (Some fault) = refuses (plan_refusal fault)
+abbrev pub planned : ℕ → TimedView → Option PlanFault → Outcome
+planned pivots t None = plans pivots t
+planned pivots t (Some fault) = refuses (plan_refusal fault)
 
 -- what comes of a platform that is to be planned
-abbrev pub plan_of : TimedView → Outcome
-plan_of t = planned t (fault_of most_pivots t)
+abbrev pub plan_of : ℕ → TimedView → Outcome
+plan_of pivots t = planned pivots t (fault_of pivots t)
 
 -- the text is that of the platform's plan
-pub record IsPlanText (t : TimedView) (text : List ℕ) : Type 0 where
+pub record IsPlanText (pivots : ℕ) (t : TimedView) (text : List ℕ) : Type 0 where
   pub plan : Plan
-  pub is : IsPlan most_pivots t plan
+  pub is : IsPlan pivots t plan
   pub is_text : text ≡ plan_text t Tasking plan.table
 
 -- the outcome lets the program print the text
 abbrev pub IsPrint : Outcome → List ℕ → Type 0
 IsPrint (prints bytes) text = text ≡ bytes
-IsPrint (plans t) text = IsPlanText t text
+IsPrint (plans pivots t) text = IsPlanText pivots t text
 IsPrint (refuses refusal) text = ⊥
 
 -- the outcome is no refusal
 abbrev pub IsText : Outcome → Type 0
 IsText (prints bytes) = Unit {0}
-IsText (plans t) = Unit {0}
+IsText (plans pivots t) = Unit {0}
 IsText (refuses refusal) = ⊥
 
 -- the text of a certificate, or why there is none; a run over a bounded programme always has an answer
@@ -125,8 +111,8 @@ priced (Some (Err fault)) = refuses (plan_refusal fault)
 priced None = refuses no_memory
 
 -- a platform's certificate of the best rate
-abbrev pub certificate_for : TimedView → Outcome
-certificate_for t = priced (prices_of most_pivots t)
+abbrev pub certificate_for : ℕ → TimedView → Outcome
+certificate_for pivots t = priced (prices_of pivots t)
 
 -- the line of a certificate that proves: its rate in tasks per tick, and the ticks of a time unit
 abbrev pub upper_text : TimedView → CertificateView → List ℕ
@@ -157,9 +143,10 @@ check_of_name name (Some bytes) t = check_of_file t bytes
 
 -- what comes of a platform in ticks and of the second file
 abbrev pub work_of : Command → Option (List ℕ) → TimedView → Outcome
-work_of (plan name) second t = plan_of t
-work_of (prices name) second t = certificate_for t
-work_of (check name certificate) second t = check_of_name certificate second t
+work_of (plan name series pivots) second t = plan_of pivots t
+work_of (prices name series pivots) second t = certificate_for pivots t
+work_of (check name certificate series) second t = check_of_name certificate second t
+work_of (audit name other periods) second t = refuses usage
 
 -- what comes of a command, of what its first name holds and of what its second one holds
 abbrev pub outcome_for : Command → Option (List ℕ) → Option (List ℕ) → Outcome

@@ -5,7 +5,8 @@ ghost use Rattle.std.specs.Fmt.{signed_decimal};
 ghost use Rattle.text_lines.specs.Lines.{line};
 ghost use Rattle.tasking_program.specs.Programme.{tasking_programme};
 ghost use Rattle.steady_top.specs.Faults.{refusal_of};
-ghost use Rattle.steady_top.specs.Outcomes.{Command, upper_text};
+ghost use Rattle.command_words.specs.Words.{plan, prices, check};
+ghost use Rattle.steady_top.specs.Outcomes.{upper_text};
 ghost use Rattle.steady_top.specs.Answers.{IsMade, IsCauseFor};
 ghost use Rattle.steady_top.specs.Planned.{IsPlatformRead, IsPlatformFault, IsCertificateRead, IsCertificateFault, IsProved, IsJudged};
 
@@ -19,9 +20,6 @@ use platform_file::{Kind, MOST_BYTES, Timed, read_platform, timed};
 use schedule_model::Series;
 use std::alloc::Global;
 use tasking_program::tasking_lp;
-
-/// How many pivots are made at the most.
-const MOST_PIVOTS: u64 = 100000;
 
 /// The most bytes of a certificate.
 const MOST_CERTIFICATE_BYTES: u64 = 1048576;
@@ -49,11 +47,14 @@ pub fn plan<'a, F: Files>(
     alloc: Global,
     files: &mut F,
     name: &'a str,
+    series: Series,
+    pivots: u64,
 ) -> Result<String, TopFault<'a>>
-    ensures { MatchResult result (λ text. IsMade (Command.plan name.now) (F.state files.old) (F.state files.new) (string_bytes text)) (λ fault. IsCauseFor (Command.plan name.now) (F.state files.old) (F.state files.new) (refusal_of fault)) }
+    ensures { MatchResult result (λ text. IsMade (plan name.now series pivots) (F.state files.old) (F.state files.new) (string_bytes text)) (λ fault. IsCauseFor (plan name.now series pivots) (F.state files.old) (F.state files.new) (refusal_of fault)) }
 {
+    let _ = series;
     let timed = read_timed(alloc, files, name)?;
-    let plan = planner::plan(alloc, &timed, Series::Tasking, MOST_PIVOTS)?;
+    let plan = planner::plan(alloc, &timed, Series::Tasking, pivots)?;
     Ok(print_plan(alloc, &timed, Series::Tasking, &plan.table)?)
 }
 
@@ -62,11 +63,14 @@ pub fn prices<'a, F: Files>(
     alloc: Global,
     files: &mut F,
     name: &'a str,
+    series: Series,
+    pivots: u64,
 ) -> Result<String, TopFault<'a>>
-    ensures { MatchResult result (λ text. IsMade (Command.prices name.now) (F.state files.old) (F.state files.new) (string_bytes text)) (λ fault. IsCauseFor (Command.prices name.now) (F.state files.old) (F.state files.new) (refusal_of fault)) }
+    ensures { MatchResult result (λ text. IsMade (prices name.now series pivots) (F.state files.old) (F.state files.new) (string_bytes text)) (λ fault. IsCauseFor (prices name.now series pivots) (F.state files.old) (F.state files.new) (refusal_of fault)) }
 {
+    let _ = series;
     let timed = read_timed(alloc, files, name)?;
-    let certificate = planner::prices(alloc, &timed, Series::Tasking, MOST_PIVOTS)?;
+    let certificate = planner::prices(alloc, &timed, Series::Tasking, pivots)?;
     Ok(print_certificate(alloc, Series::Tasking, &certificate)?)
 }
 
@@ -158,9 +162,11 @@ pub fn check<'a, F: Files>(
     files: &mut F,
     name: &'a str,
     second: &'a str,
+    series: Series,
 ) -> Result<String, TopFault<'a>>
-    ensures { MatchResult result (λ text. IsMade (Command.check name.now second.now) (F.state files.old) (F.state files.new) (string_bytes text)) (λ fault. IsCauseFor (Command.check name.now second.now) (F.state files.old) (F.state files.new) (refusal_of fault)) }
+    ensures { MatchResult result (λ text. IsMade (check name.now second.now series) (F.state files.old) (F.state files.new) (string_bytes text)) (λ fault. IsCauseFor (check name.now second.now series) (F.state files.old) (F.state files.new) (refusal_of fault)) }
 {
+    let _ = series;
     let timed = read_timed(alloc, files, name)?;
     let lp = tasking_lp(alloc, &timed)?;
     let certificate = read_named_certificate(alloc, files, second, &timed, &lp)?;

@@ -108,8 +108,12 @@ fn refuses_words(rt: HostRuntime) -> Result<(), Fail> {
         "plan",
         "plan|-P",
         "plan|P|P",
+        "plan|P|--pivots|x",
+        "plan|P|--series|tree",
+        "plan|P|--help",
         "prices",
         "prices|-P",
+        "audit|P|C",
         "check|P",
         "check|P|-P",
         "check|P|P|P",
@@ -148,16 +152,41 @@ fn plans_platforms(rt: HostRuntime) -> Result<(), Fail> {
 fn refuses_files(rt: HostRuntime) -> Result<(), Fail> {
     let alloc = rt.alloc();
     let overflow = "error: ticks overflow: lcm of 999997000002 and 999997\n";
-    let period =
-        "error: period overflow at denominators: 333327333372666550666818999930 and 999991\n";
     let cannot_read = "error: cannot read nofile\n";
     for (line, text, status, written) in [
         ("plan|P", FINE_TIMES, Status::Overflow, overflow),
-        ("plan|P", SIX_WORKERS, Status::Overflow, period),
         ("plan|nofile", LONE_MASTER, Status::ReadFault, cannot_read),
     ] {
         let (ended, out) = answer(alloc, line, text.as_bytes(), &[], 4096, &[])?;
         assert_eq!(rt; ended, status, "{written}");
+        assert_eq!(rt; out.as_str(), written);
+    }
+    Ok(())
+}
+
+#[test]
+fn tells_where_a_period_passes(rt: HostRuntime) -> Result<(), Fail> {
+    let alloc = rt.alloc();
+    let (ended, out) = answer(alloc, "plan|P", SIX_WORKERS.as_bytes(), &[], 4096, &[])?;
+    assert_eq!(rt; ended, Status::Overflow);
+    assert_eq!(rt;
+        out.as_str(),
+        "error: period overflow at denominators: 333327333372666550666818999930 and 999991\n"
+    );
+    Ok(())
+}
+
+#[test]
+fn makes_as_many_pivots_as_allowed(rt: HostRuntime) -> Result<(), Fail> {
+    let alloc = rt.alloc();
+    let spent = "error: pivot limit 0 spent\n";
+    for (line, status, written) in [
+        ("plan|P|--pivots|0", Status::Spent, spent),
+        ("prices|P|--pivots|0", Status::Spent, spent),
+        ("plan|P|--pivots=1", Status::Done, LONE_PLAN),
+    ] {
+        let (ended, out) = answer(alloc, line, LONE_MASTER.as_bytes(), &[], 4096, &[])?;
+        assert_eq!(rt; ended, status, "{line}");
         assert_eq!(rt; out.as_str(), written);
     }
     Ok(())

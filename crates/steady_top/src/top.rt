@@ -10,7 +10,7 @@ ghost use Rattle.steady_top.specs.Answers.{AreToldAs, IsAnswer, IsCause, IsPrint
 use crate::fault::TopFault;
 use crate::planning::{check, plan, prices};
 use crate::status::Status;
-use crate::words::{Command, command_in};
+use command_words::{Command, WordsFault, command_in};
 use listed::NoMemory;
 use outside_io::{Failed, Files, Sink, write_whole};
 use std::alloc::Global;
@@ -23,11 +23,30 @@ fn answer<'a, F: Files>(
 ) -> Result<String, TopFault<'a>>
     ensures { MatchResult result (λ text. IsAnswer (map string_bytes words.now) (F.state files.old) (F.state files.new) (string_bytes text)) (λ fault. IsCause (map string_bytes words.now) (F.state files.old) (F.state files.new) (refusal_of fault)) }
 {
-    match command_in(words) {
-        Some(Command::Plan(name)) => plan(alloc, files, name),
-        Some(Command::Prices(name)) => prices(alloc, files, name),
-        Some(Command::Check(name, certificate)) => check(alloc, files, name, certificate),
-        None => Err(TopFault::Usage),
+    match command_in(alloc, words) {
+        Ok(
+            Command::Plan {
+                file,
+                series,
+                pivots,
+            },
+        ) => plan(alloc, files, file, series, pivots),
+        Ok(
+            Command::Prices {
+                file,
+                series,
+                pivots,
+            },
+        ) => prices(alloc, files, file, series, pivots),
+        Ok(
+            Command::Check {
+                file,
+                certificate,
+                series,
+            },
+        ) => check(alloc, files, file, certificate, series),
+        Ok(Command::Audit { .. }) | Err(WordsFault::Usage) => Err(TopFault::Usage),
+        Err(WordsFault::NoMemory) => Err(TopFault::NoMemory),
     }
 }
 
@@ -63,8 +82,8 @@ fn respond<F: Files, S: Sink>(alloc: Global, words: &[String], files: &mut F, ou
 
 /// The program: reads what the words name, and writes a text or one error line.
 ///
-/// `plan FILE` prints the plan of the platform in the file, `prices FILE` the certificate of its best rate, and `check FILE CERTIFICATE`
-/// the rate that the certificate proves for it. All of a text is made before its first byte is written.
+/// `plan FILE` prints the plan of the platform in the file, `prices FILE` the certificate of its best rate, both found with at most as
+/// many pivots as `--pivots` says, and `check FILE CERTIFICATE` the rate that the certificate proves for it. All of a text is made before its first byte is written.
 pub fn steady<F: Files, S: Sink>(
     alloc: Global,
     words: &[String],
