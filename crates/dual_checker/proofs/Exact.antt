@@ -1,26 +1,22 @@
 -- The texts of certificates are read as what they print, and no others are read.
-use Rattle.std.proofs.Common.{◌≡◌, ◌≢◌, ℕ, zero, suc, ◌+◌, ◌-◌, ◌<◌, ◌≤◌, ◌^◌, Bool, true, false, not, ◌&&◌, ℤ, pos, negsuc, neg_ℤ, ◌≤ℤ◌, nat_abs, nat_eq, cond, List, [], ◌∷◌, ◌++◌, length, take, drop, get_or, slice_index_or, All, Option, Some, None, option_and_then, Result, Ok, Err, bytes_eq, codes, decimal, refl, sym, ap, ◌∙◌, subst, arith, inl, inr, add-one, add-zero, add-suc}
+use Rattle.std.proofs.Common.{◌≡◌, ◌≢◌, ℕ, zero, suc, ◌+◌, ◌<◌, ◌≤◌, ◌^◌, Bool, true, false, not, ℤ, pos, negsuc, ◌≤ℤ◌, nat_abs, nat_eq, cond, List, [], ◌∷◌, ◌++◌, length, take, drop, slice_index_or, All, Option, Some, None, option_and_then, Result, Ok, Err, bytes_eq, codes, decimal, refl, sym, ap, ◌∙◌, subst, arith, inl}
 use Rattle.std.specs.Prelude.{int_lt}
 use Rattle.std.specs.Fmt.{signed_decimal}
 use Rattle.std.specs.List.{list_all}
-use Rattle.std.specs.Str.Parse.{AllDigits}
 use Rattle.std.proofs.lemmas.Int.{ints}
-use Rattle.std.proofs.lemmas.Bool.{cases_lt, eq-eqb, eqb-true, ne_eqb}
-use Rattle.std.proofs.lemmas.Fmt.{decimal_is_IsNumeral_wide}
-use Rattle.std.proofs.lemmas.Str.Parse.{digit_from_value}
 use Rattle.std.proofs.lemmas.Slice.Eq.{bytes_eq-Decides}
-use Rattle.std.proofs.lemmas.List.{append_assoc, append-nil, length-append, take-append-drop, take_more, drop_more, take_all, drop_all}
-use Rattle.std.proofs.Math.Seq.{take-append_seam, drop-append_seam}
+use Rattle.std.proofs.lemmas.List.{append_assoc, append-nil, length-append, take_more, drop_more, take_all, drop_all}
 use Rattle.std.proofs.lemmas.List.Elements.{All-append, All-cons, All-nil, All-push}
-use Rattle.linear_program.specs.Certificates.{CertificateView, IsCertificate}
+use Rattle.linear_program.specs.Certificates.{CertificateView}
 use Rattle.schedule_model.specs.declared.schedule.Series.{Series}
 use Rattle.schedule_model.specs.declared.schedule.Series.TheVariants.{Tasking, Scatter}
 use Rattle.text_lines.specs.Lines.{line, IsOneLine, first_line, behind}
 use Rattle.text_lines.specs.Numbers.{integer_of, IsReadAsPrinted}
 use Rattle.text_lines.proofs.Digits.{read_as_printed}
 use Rattle.text_lines.proofs.FirstLines.{line_first, IsSplit, line_split}
+use Rattle.text_lines.proofs.Words.{behind_read, behind_back, lacks_by, decimal_lacks}
 use Rattle.dual_checker.specs.declared.reading.CertificateFault.{CertificateFault}
-use Rattle.dual_checker.specs.declared.reading.CertificateFault.TheVariants.{Line, NoMemory}
+use Rattle.dual_checker.specs.declared.reading.CertificateFault.TheVariants.{Line}
 use Rattle.dual_checker.specs.Texts.{header_text, price_word, prices_text, certificate_text}
 use Rattle.dual_checker.specs.Reading.{most_size, Left, Numbered, expected, after_text, at_least, number_in, or_fault, numbered, number_after, least_price, Prices, with_price, next_price, prices_of, ended, priced, from_best, from_scale, from_rows, from_header, certificate_of, IsWritten, AreTexts}
 use Rattle.dual_checker.proofs.Parts.{prices_push, lines_read}
@@ -69,22 +65,6 @@ text_read number text bytes rest e = way (first_line bytes) (line_split bytes) e
 
 text_back : (number : ℕ) (text rest : List ℕ) → IsOneLine text → after_text number text (line text ++ rest) ≡ Ok rest
 text_back number text rest one = rw (line_first text rest one, (bytes_eq-Decides text text).1 refl) refl
-
--- what stands behind a word
-behind_read : (word text rest : List ℕ) → behind word text ≡ Some rest → text ≡ word ++ rest
-behind_read word text rest e = way (bytes_eq (take (length word) text) word) refl e
-  where
-    same_rest : (xs ys : List ℕ) → Some xs ≡ Some ys → xs ≡ ys
-    same_rest xs ys e = cc
-
-    way : (b : Bool) → bytes_eq (take (length word) text) word ≡ b → cond b (Some (drop (length word) text)) None ≡ Some rest → text ≡ word ++ rest
-    way true is e =
-        let front : take (length word) text ≡ word = (bytes_eq-Decides (take (length word) text) word).0 is in
-        sym (take-append-drop (length word) text) ∙ ap (λ xs. xs ++ drop (length word) text) front ∙ ap (λ ys. word ++ ys) (same_rest (drop (length word) text) rest e)
-    way false is e = let bad : None ≡ Some rest = e in cc
-
-behind_back : (word rest : List ℕ) → behind word (word ++ rest) ≡ Some rest
-behind_back word rest = rw (take-append_seam word rest, drop-append_seam word rest, (bytes_eq-Decides word word).1 refl) refl
 
 -- numbers up to 2^127 - 1 in size are read as they are printed
 printed : IsReadAsPrinted most_size
@@ -261,22 +241,13 @@ module _ (series : Series) (rows : ℕ) (c : CertificateView) where
 
 -- texts that stand on one line
 one_line_by : (text : List ℕ) → list_all (λ b. not (nat_eq b 10)) text ≡ true → IsOneLine text
-one_line_by [] e = All-nil (λ b. b ≢ 10)
-one_line_by (b ∷ text) e = All-cons (λ b. b ≢ 10) b text (λ same. let bad : false ≡ true = rw (eq-eqb b 10 same) at e in cc) (one_line_by text (rest (not (nat_eq b 10)) _ e))
-  where
-    rest : (x y : Bool) → (x && y) ≡ true → y ≡ true
-    rest true y e = e
-    rest false y e = let bad : false ≡ true = e in cc
+one_line_by text e = lacks_by 10 text e
 
 one_line_both : (xs ys : List ℕ) → IsOneLine xs → IsOneLine ys → IsOneLine (xs ++ ys)
 one_line_both xs ys h k = All-append (λ b. b ≢ 10) xs ys h k
 
 decimal_one_line : (n : ℕ) → n < 10 ^ 64 → IsOneLine (decimal n)
-decimal_one_line n small = digits (decimal n) (decimal_is_IsNumeral_wide n small).0.1
-  where
-    digits : (text : List ℕ) → AllDigits 10 text → IsOneLine text
-    digits [] d = All-nil (λ b. b ≢ 10)
-    digits (b ∷ text) d = let range = digit_from_value b d.0 in All-cons (λ b. b ≢ 10) b text (λ same. omega (arith, range.0, same)) (digits text d.1)
+decimal_one_line n small = decimal_lacks 10 n small (inl (omega arith))
 
 signed_one_line : (z : ℤ) → nat_abs z ≤ most_size → IsOneLine (signed_decimal z)
 signed_one_line (pos n) h = decimal_one_line n (omega (arith, h))

@@ -1,18 +1,15 @@
 -- The lines of a certificate, printed and read.
-use Rattle.std.proofs.Common.{◌≡◌, ◌≢◌, ℕ, zero, suc, ◌+◌, ◌-◌, ◌<◌, ◌≤◌, ◌^◌, Bool, true, false, ℤ, pos, negsuc, neg_ℤ, ◌≤ℤ◌, nat_abs, nat_eq, cond, min, List, [], ◌∷◌, ◌++◌, length, take, drop, get_or, slice_index_or, All, Option, Some, None, option_and_then, Result, Ok, Err, bytes_eq, codes, decimal, refl, sym, ap, ◌∙◌, subst, arith, inl, inr, add-one, add-zero, add-suc}
-use Rattle.std.specs.Prelude.{int_lt}
+use Rattle.std.proofs.Common.{◌≡◌, ℕ, zero, suc, ◌+◌, ◌<◌, ◌≤◌, ℤ, pos, min, List, [], ◌∷◌, ◌++◌, length, take, slice_index_or, Result, Ok, Err, codes, decimal, refl, sym, ap, ◌∙◌, subst, arith, inl, inr, add-zero}
 use Rattle.std.specs.Fmt.{signed_decimal}
-use Rattle.std.proofs.lemmas.Int.{ints}
 use Rattle.std.proofs.lemmas.Bool.{cases_lt}
-use Rattle.std.proofs.lemmas.List.{append_assoc, append-nil, length-append, length-take, take_more}
-use Rattle.linear_program.specs.Certificates.{CertificateView, IsCertificate}
+use Rattle.std.proofs.lemmas.List.{append_assoc, append-nil, length-take, take_more}
+use Rattle.linear_program.specs.Certificates.{CertificateView}
 use Rattle.schedule_model.specs.declared.schedule.Series.{Series}
-use Rattle.text_lines.specs.Lines.{line, IsOneLine, first_line, behind}
-use Rattle.text_lines.specs.Numbers.{integer_of}
+use Rattle.text_lines.specs.Lines.{line}
 use Rattle.dual_checker.specs.declared.reading.CertificateFault.{CertificateFault}
 use Rattle.dual_checker.specs.declared.reading.CertificateFault.TheVariants.{Line, NoMemory}
-use Rattle.dual_checker.specs.Texts.{header_text, price_word, prices_text, certificate_text}
-use Rattle.dual_checker.specs.Reading.{most_size, after_text, number_after, least_price, with_price, next_price, prices_of, ended, certificate_of, IsFault}
+use Rattle.dual_checker.specs.Texts.{header_text, price_word, prices_text}
+use Rattle.dual_checker.specs.Reading.{after_text, number_after, least_price, with_price, next_price, prices_of, ended, certificate_of, IsFault}
 
 -- the lines of prices with one more
 pub prices_push : (k : ℕ) (prices : List ℤ) (price : ℤ) → prices_text k (prices ++ price ∷ []) ≡ prices_text k prices ++ line (price_word (k + length prices) ++ signed_decimal price)

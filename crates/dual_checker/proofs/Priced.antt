@@ -1,12 +1,12 @@
 -- What the sums of the check mean, and why it proves.
-use Rattle.std.proofs.Common.{◌≡◌, ◌≢◌, ℕ, zero, suc, ◌+◌, ◌<◌, ◌≤◌, ◌^◌, Bool, true, false, ℤ, pos, ◌+ℤ◌, ◌*ℤ◌, ◌≤ℤ◌, ◌<ℤ◌, nat_abs, nat_lt, cond, List, [], ◌∷◌, length, get_or, slice_index_or, All, Option, Some, None, option_and_then, refl, sym, ap, ◌∙◌, subst, arith, inl, inr, ◌⊎◌}
+use Rattle.std.proofs.Common.{◌≡◌, ℕ, zero, suc, ◌<◌, ◌≤◌, ◌^◌, Bool, true, false, ℤ, pos, ◌+ℤ◌, ◌*ℤ◌, ◌≤ℤ◌, ◌<ℤ◌, nat_abs, nat_lt, cond, List, [], ◌∷◌, length, slice_index_or, All, Option, Some, None, option_and_then, refl, sym, ap, ◌∙◌, subst, arith, inl, inr}
 use Rattle.std.specs.Prelude.{int_lt}
 use Rattle.std.specs.Option.{is_some}
 use Rattle.std.proofs.lemmas.Int.{ints}
 use Rattle.std.proofs.lemmas.Bool.{cases_lt}
 use Rattle.std.proofs.lemmas.List.{get_or_default}
 use Rattle.linear_program.specs.Certificates.{CertificateView, IsCertificate}
-use Rattle.linear_program.specs.Duality.{priced_column, priced_sides, IsDualFeasible}
+use Rattle.linear_program.specs.Duality.{priced_column, priced_sides}
 use Rattle.linear_program.specs.Pivots.{first_some, first_below}
 use Rattle.linear_program.specs.Programmes.{RowView, LpView, cell_at, row_at, gain_at}
 use Rattle.linear_program.specs.Sizes.{fitting}

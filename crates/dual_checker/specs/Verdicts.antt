@@ -1,10 +1,10 @@
 -- What the check of a certificate says, in whole numbers without bound, with the column at which a sum passes 2^127 - 1.
-use Rattle.std.specs.Prelude.{◌≡◌, ◌⊎◌, ℕ, zero, suc, ℤ, pos, ◌+ℤ◌, ◌*ℤ◌, ◌≤ℤ◌, List, length, Option, Some, None, option_and_then, cond, slice_index_or}
+use Rattle.std.specs.Prelude.{ℕ, zero, suc, ℤ, pos, ◌+ℤ◌, ◌*ℤ◌, ◌≤ℤ◌, List, length, Option, Some, None, option_and_then, cond, slice_index_or}
 use Rattle.std.specs.Prelude.{int_lt}
 use Rattle.linear_program.specs.Certificates.{CertificateView}
 use Rattle.linear_program.specs.Duality.{priced_sides, IsDualFeasible}
 use Rattle.linear_program.specs.Pivots.{first_some, first_below}
-use Rattle.linear_program.specs.Programmes.{RowView, LpView, cell_at, row_at, gain_at}
+use Rattle.linear_program.specs.Programmes.{LpView, cell_at, row_at, gain_at}
 use Rattle.linear_program.specs.Sizes.{fitting}
 use Rattle.dual_checker.specs.declared.verdict.Verdict.{Verdict}
 use Rattle.dual_checker.specs.declared.verdict.Verdict.TheVariants.{Proves, Negative, Column, Value, Overflow}

@@ -28,8 +28,10 @@ fn is_piece(lanes: u128, routes: &[Route], piece: &Piece) -> bool
     u128::from(piece.lane) < lanes && 1 <= piece.count && piece.count <= MOST_CARRIED
 }
 
-/// Whether a slot lasts, with pieces by ascending lane.
-fn is_slot(lanes: u128, routes: &[Route], slot: &Slot) -> bool
+/// Whether a slot lasts, with pieces by ascending lane. It is given how many lanes the routes have, which [`lane_count`] tells.
+///
+/// Takes time in the number of its pieces.
+pub fn is_slot(lanes: u128, routes: &[Route], slot: &Slot) -> bool
     requires { lanes ≡ length (lanes_of routes.now) }
     ensures yes { result ≡ true → IsSlot (lanes_of routes.now) slot.now }
     ensures no { IsSlot (lanes_of routes.now) slot.now → result ≡ true }
@@ -73,8 +75,9 @@ fn each_kind_has(routes: &[Route], kinds: usize, tasks: u128) -> bool
     true
 }
 
-/// Whether a table's tasks are those of its routes, for a Scatter those of each target's.
-fn has_tasks(timed: &Timed, series: Series, table: &Table) -> bool
+/// Whether a table's tasks are those of its routes, for a Scatter those of each target's. Takes a pass over the routes, and one for each
+/// target.
+pub fn has_tasks(timed: &Timed, series: Series, table: &Table) -> bool
     requires { table.now.tasks ≤ 2 ^ 107 }
     ensures yes { result ≡ true → HasTasks timed.now series table.now }
     ensures no { HasTasks timed.now series table.now → result ≡ true }
@@ -88,8 +91,8 @@ fn has_tasks(timed: &Timed, series: Series, table: &Table) -> bool
     }
 }
 
-/// Whether the slots of a table make up its period.
-fn has_period(table: &Table) -> bool
+/// Whether the slots of a table make up its period, which is of at most 2^100 ticks. Takes a pass over the slots.
+pub fn has_period(table: &Table) -> bool
     ensures yes { result ≡ true → (table.now.period ≡ sum_by (λ slot. slot.duration) table.now.slots) × (table.now.period ≤ 2 ^ 100) }
     ensures no { table.now.period ≡ sum_by (λ slot. slot.duration) table.now.slots → table.now.period ≤ 2 ^ 100 → result ≡ true }
 {

@@ -48,8 +48,8 @@ pub fn longest(routes: &[Route]) -> usize
     most
 }
 
-/// The number of lanes.
-pub(crate) fn lane_count(routes: &[Route]) -> u128
+/// The number of lanes: of hops of all routes.
+pub fn lane_count(routes: &[Route]) -> u128
     ensures { result ≡ length (lanes_of routes.now) }
 {
     let mut sum = 0;

@@ -8,5 +8,5 @@ mod numbers;
 mod tests;
 
 pub use laws::numbers_are_read_as_printed;
-pub use lines::{behind, first_line};
+pub use lines::{behind, first_line, parted, words_of};
 pub use numbers::{integer_of, natural_of, number_of};

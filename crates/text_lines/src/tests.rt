@@ -1,4 +1,8 @@
-use crate::{behind, first_line, integer_of, natural_of, number_of, numbers_are_read_as_printed};
+use crate::{
+    behind, first_line, integer_of, natural_of, number_of, numbers_are_read_as_printed, parted,
+    words_of,
+};
+use std::test::Fail;
 
 #[test]
 fn reads_lines(rt: HostRuntime) {
@@ -10,6 +14,28 @@ fn reads_lines(rt: HostRuntime) {
     assert_eq!(rt; first_line(b"a"), None);
     assert_eq!(rt; behind(b"rows ", b"rows 7"), Some(b"7".as_slice()));
     assert_eq!(rt; behind(b"rows ", b"row"), None);
+    assert_eq!(rt;
+        parted(b':', b"1:2:3"),
+        Some((b"1".as_slice(), b"2:3".as_slice()))
+    );
+    assert_eq!(rt; parted(b':', b"1 2"), None);
+}
+
+#[test]
+fn reads_words(rt: HostRuntime) -> Result<(), Fail> {
+    let alloc = rt.alloc();
+    for (text, count, last) in [
+        ("slot 1 0:1", 3, "0:1"),
+        ("", 1, ""),
+        (" a", 2, "a"),
+        ("a ", 2, ""),
+        ("a  b", 3, "b"),
+    ] {
+        let words = words_of(alloc, text.as_bytes())?;
+        assert_eq!(rt; words.len(), count, "{text}");
+        assert_eq!(rt; words.as_slice().last(), Some(&last.as_bytes()), "{text}");
+    }
+    Ok(())
 }
 
 #[test]

@@ -1,7 +1,7 @@
-use Rattle.std.proofs.Common.{◌≡◌, ◌*◌, ℕ, ℤ, pos, negsuc, ◌≤ℤ◌, nat_abs, arith, sym, ◌∙◌, subst}
+use Rattle.std.proofs.Common.{◌≡◌, ℤ, pos, negsuc, ◌≤ℤ◌, nat_abs, arith, sym, ◌∙◌, subst}
 use Rattle.std.proofs.lemmas.Int.{ints}
 use Rattle.linear_program.specs.Duality.{priced_sides, IsDualFeasible}
-use Rattle.dual_checker.specs.Verdicts.{IsProof, ProvesOrOverflows}
+use Rattle.dual_checker.specs.Verdicts.{ProvesOrOverflows}
 use Rattle.dual_checker.proofs.Priced.{proof_of, complete}
 use Rattle.dual_checker.proofs.checking.check.Goals as goal
 

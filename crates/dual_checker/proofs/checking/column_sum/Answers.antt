@@ -1,4 +1,4 @@
-use Rattle.std.proofs.Common.{rules, ◌≡◌, ◌<◌, ℤ, pos, length, [], option_and_then, slice_index_or, add-one, sym, ap, ◌∙◌, SFits}
+use Rattle.std.proofs.Common.{rules, ◌≡◌, ◌<◌, pos, length, option_and_then, slice_index_or, add-one, sym, ap, ◌∙◌, SFits}
 use Rattle.std.specs.Int.{w128}
 use Rattle.std.proofs.lemmas.Int.{to_z-of_z}
 use Rattle.std.proofs.lemmas.List.{get_or_default}

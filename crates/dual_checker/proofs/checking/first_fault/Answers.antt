@@ -1,9 +1,6 @@
-use Rattle.std.proofs.Common.{rules, ◌≡◌, ◌<◌, ◌≤◌, ℕ, zero, suc, Some, None, true, Option, arith, refl, sym, ◌∙◌, inl, inr}
+use Rattle.std.proofs.Common.{rules, ◌≡◌, ◌<◌, true, sym, ◌∙◌}
 use Rattle.std.specs.Option.{is_some}
-use Rattle.std.proofs.lemmas.Bool.{cases_lt}
-use Rattle.linear_program.specs.Pivots.{first_some}
-use Rattle.dual_checker.specs.declared.verdict.Verdict.{Verdict}
-use Rattle.dual_checker.specs.Verdicts.{column_fault, first_fault}
+use Rattle.dual_checker.specs.Verdicts.{column_fault}
 use Rattle.dual_checker.proofs.Priced.{fault_found}
 use Rattle.dual_checker.proofs.checking.first_fault.Goals as goal
 

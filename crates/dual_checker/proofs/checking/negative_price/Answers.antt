@@ -1,4 +1,4 @@
-use Rattle.std.proofs.Common.{rules, ◌≡◌, ◌<◌, ℕ, pos, length, Some, true, sym, ◌∙◌, slice_index_or, SFits}
+use Rattle.std.proofs.Common.{rules, ◌≡◌, pos, length, true, sym, slice_index_or, SFits}
 use Rattle.std.specs.Prelude.{int_lt}
 use Rattle.std.specs.Int.{w128}
 use Rattle.std.proofs.lemmas.Int.{to_z-of_z}

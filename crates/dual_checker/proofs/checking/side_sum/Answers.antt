@@ -1,8 +1,8 @@
-use Rattle.std.proofs.Common.{rules, ◌≡◌, ◌<◌, ℤ, pos, length, [], option_and_then, slice_index_or, add-one, sym, ap, ◌∙◌, SFits}
+use Rattle.std.proofs.Common.{rules, ◌≡◌, ◌<◌, pos, length, option_and_then, slice_index_or, add-one, sym, ap, ◌∙◌, SFits}
 use Rattle.std.specs.Int.{w128}
 use Rattle.std.proofs.lemmas.Int.{to_z-of_z}
 use Rattle.std.proofs.lemmas.List.{get_or_default}
-use Rattle.linear_program.specs.Programmes.{cell_at, row_at}
+use Rattle.linear_program.specs.Programmes.{row_at}
 use Rattle.dual_checker.specs.Verdicts.{price_at, fitting_more}
 use Rattle.dual_checker.proofs.checking.side_sum.Goals as goal
 

@@ -1,4 +1,4 @@
-use Rattle.std.proofs.Common.{rules, ◌≡◌, ◌++◌, codes, decimal, length, string_bytes, sym, ap, ◌∙◌}
+use Rattle.std.proofs.Common.{rules, ◌≡◌, ◌++◌, codes, decimal, length, string_bytes}
 use Rattle.std.specs.Fmt.{signed_decimal}
 use Rattle.text_lines.specs.Lines.{line}
 use Rattle.dual_checker.specs.Texts.{header_text, prices_text}

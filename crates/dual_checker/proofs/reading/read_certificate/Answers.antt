@@ -1,4 +1,4 @@
-use Rattle.std.proofs.Common.{rules, ◌≡◌, ◌+◌, ◌<◌, ◌++◌, length, Ok, Err, pos, codes, decimal, sym, ap, ◌∙◌}
+use Rattle.std.proofs.Common.{rules, ◌≡◌, ◌+◌, ◌<◌, ◌++◌, length, Ok, pos, codes, decimal, ◌∙◌}
 use Rattle.dual_checker.specs.Texts.{header_text}
 use Rattle.dual_checker.specs.Reading.{after_text, number_after, prices_of}
 use Rattle.dual_checker.proofs.Parts.{lines_read, left_over}

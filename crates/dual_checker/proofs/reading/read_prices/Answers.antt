@@ -1,10 +1,10 @@
-use Rattle.std.proofs.Common.{rules, ◌≡◌, ◌+◌, ◌<◌, ◌≤◌, ◌^◌, ◌++◌, [], ◌∷◌, suc, length, nat_abs, All, Ok, Err, string_bytes, add-one, sym, ap, ◌∙◌, subst, arith, SFits}
+use Rattle.std.proofs.Common.{rules, ◌≡◌, ◌+◌, ◌<◌, ◌^◌, ◌++◌, [], ◌∷◌, suc, length, nat_abs, All, Ok, Err, add-one, sym, ap, ◌∙◌, subst, SFits}
 use Rattle.std.specs.Int.{w128}
 use Rattle.std.proofs.lemmas.Int.{to_z-of_z}
 use Rattle.std.proofs.lemmas.List.{length-append}
 use Rattle.std.proofs.lemmas.List.Elements.{All-push}
 use Rattle.dual_checker.specs.Texts.{price_word}
-use Rattle.dual_checker.specs.Reading.{number_after, least_price, prices_of, IsFault}
+use Rattle.dual_checker.specs.Reading.{number_after, least_price, prices_of}
 use Rattle.dual_checker.proofs.Parts.{is_fault, prices_fail, price_fails, price_read}
 use Rattle.dual_checker.proofs.reading.read_prices.Goals as goal
 
