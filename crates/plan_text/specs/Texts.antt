@@ -30,22 +30,34 @@ names_text t [] = []
 names_text t (node ∷ nodes) = codes " " ++ (name_of t node ++ names_text t nodes)
 
 -- a route's number, its count and its nodes from the master to the end
+abbrev pub route_line : TimedView → ℕ → Route → List ℕ
+route_line t number route = codes "route " ++ (decimal number ++ (codes " " ++ (decimal route.count ++ names_text t (nodes_on t route.links route.end))))
+
+-- the line of a route
 abbrev pub route_text : TimedView → ℕ → Route → List ℕ
-route_text t number route = line (codes "route " ++ (decimal number ++ (codes " " ++ (decimal route.count ++ names_text t (nodes_on t route.links route.end)))))
+route_text t number route = line (route_line t number route)
 
 -- the lines of some routes, numbered from one on
 abbrev pub routes_text : TimedView → ℕ → List Route → List ℕ
 routes_text t number [] = []
 routes_text t number (route ∷ routes) = route_text t number route ++ routes_text t (number + 1) routes
 
+-- a piece's lane and its count
+abbrev pub piece_text : Piece → List ℕ
+piece_text piece = decimal piece.lane ++ (codes ":" ++ decimal piece.count)
+
 -- some pieces, each after a space
 abbrev pub pieces_text : List Piece → List ℕ
 pieces_text [] = []
-pieces_text (piece ∷ pieces) = codes " " ++ (decimal piece.lane ++ (codes ":" ++ (decimal piece.count ++ pieces_text pieces)))
+pieces_text (piece ∷ pieces) = codes " " ++ (piece_text piece ++ pieces_text pieces)
 
 -- a slot's duration and its pieces
+abbrev pub slot_line : Slot → List ℕ
+slot_line slot = codes "slot " ++ (decimal slot.duration ++ pieces_text slot.pieces)
+
+-- the line of a slot
 abbrev pub slot_text : Slot → List ℕ
-slot_text slot = line (codes "slot " ++ (decimal slot.duration ++ pieces_text slot.pieces))
+slot_text slot = line (slot_line slot)
 
 -- the lines of some slots
 abbrev pub slots_text : List Slot → List ℕ

@@ -14,13 +14,22 @@ use schedule_model::Series;
 use std::alloc::Global;
 
 /// The line that names the series.
-fn header(series: Series) -> &'static str
-    ensures { result.now ≡ line (header_text series) }
+pub(crate) fn header(series: Series) -> &'static str
+    ensures { result.now ≡ header_text series }
 {
     match series {
-        Series::Tasking => "plan 1 tasking\n",
-        Series::Scatter => "plan 1 scatter\n",
+        Series::Tasking => "plan 1 tasking",
+        Series::Scatter => "plan 1 scatter",
     }
+}
+
+/// The line that names the series, with its line feed.
+fn begun(alloc: Global, series: Series) -> Result<String, NoMemory>
+    ensures { IfOk result (λ text. string_bytes text ≡ line (header_text series)) }
+{
+    let mut out = String::from_str(alloc, header(series))?;
+    out.push_str("\n")?;
+    Ok(out)
 }
 
 /// Appends a line of a word and a number.
@@ -149,7 +158,7 @@ pub fn print_plan(
 {
     timed.known();
     fitting_tables_hold();
-    let mut out = String::from_str(alloc, header(series))?;
+    let mut out = begun(alloc, series)?;
     push_number(&mut out, "unit", u128::from(timed.unit()))?;
     push_number(&mut out, "period", table.period)?;
     push_number(&mut out, "tasks", table.tasks)?;

@@ -1,0 +1,12 @@
+pub mod NamedWalks
+pub mod RowWords
+pub mod LineReads
+pub mod Steps
+pub mod RowReads
+pub mod RowHeads
+pub mod PieceWords
+pub mod Places
+pub mod OneReading
+pub mod ShortWalks
+pub mod Readable
+pub mod WholeReads
