@@ -1,3 +1,5 @@
+pub mod Audited
+pub mod FewPeriods
 pub mod Responses
 pub mod Works
 pub mod Examples

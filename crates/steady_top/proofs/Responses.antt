@@ -5,10 +5,12 @@ use Rattle.outside_io.specs.Files.{Told, untold, absent, contents, FilesView, Ma
 use Rattle.outside_io.specs.Sinks.{SinkView}
 use Rattle.steady_top.specs.declared.status.Status.{Status}
 use Rattle.steady_top.specs.declared.status.Status.TheVariants as status
-use Rattle.steady_top.specs.Refusals.{Reason, limit, not_toml, bad_field, twice_named, unknown, target_is_master, target_twice, self_link, twice_linked, bad_ratio, unit, pivot, spent, period, long_certificate, certificate_line, negative_price, uncovered_column, passed_value, check_overflow, Refusal, usage, refused, cannot_read, no_memory, reason_status, status_of, error_line}
-use Rattle.command_words.specs.Words.{Command, check}
-use Rattle.steady_top.specs.Outcomes.{first_name, second_name, command_of, Outcome, refuses, IsPrint, IsText, check_of_name, outcome_for, outcome_of_command, outcome_of}
-use Rattle.steady_top.specs.Answers.{MayBe, IsToldAs, AreToldAs, ComesTo, IsSecondFault, IsCauseFor, IsCause, IsPrinted, IsRefused, IsRefusedWith, IsCutShort, IsResponse}
+use Rattle.steady_top.specs.Refusals.{Reason, limit, not_toml, bad_field, twice_named, unknown, target_is_master, target_twice, self_link, twice_linked, bad_ratio, unit, pivot, spent, period, long_certificate, certificate_line, negative_price, uncovered_column, passed_value, check_overflow, long_plan, plan_line, long_operations, breach, Refusal, usage, refused, cannot_read, no_memory, reason_status, status_of, error_line}
+use Rattle.command_words.specs.Words.{Command, plan, prices, check, audit, command_of}
+use Rattle.platform_file.specs.Ticks.{TimedView}
+use Rattle.steady_top.specs.Outcomes.{first_name, second_name, Outcome, refuses, IsText, IsRefusal, work_of, outcome_for, outcome_of_command, outcome_of}
+use Rattle.steady_top.proofs.Audited.{text_or_refusal, print_or_refusal, one_status}
+use Rattle.steady_top.specs.Answers.{MayBe, IsToldAs, AreToldAs, ComesTo, Opens, IsSecondFault, IsCauseFor, IsCause, IsPrinted, IsRefused, IsRefusedWith, IsCutShort, IsResponse}
 
 -- the statuses of refusals of what was read
 abbrev pub IsOfReason : Status → Type 0
@@ -40,6 +42,10 @@ of_reason (negative_price row) = tt
 of_reason (uncovered_column column) = tt
 of_reason passed_value = tt
 of_reason (check_overflow column) = tt
+of_reason long_plan = tt
+of_reason (plan_line number) = tt
+of_reason long_operations = tt
+of_reason (breach index rule) = tt
 
 -- so a refusal of what was read has no other status
 not_of_reason : (reason : Reason) (due : Status) → (IsOfReason due → ⊥) → reason_status reason ≡ due → ⊥
@@ -99,7 +105,11 @@ words_come_to words before holds command outcome told given comes =
 
 -- the refusal is what the words come to, for all files that tell what they hold
 abbrev IsOutcome : List (List ℕ) → FilesView → Refusal → Type 0
-IsOutcome words before refusal = (holds : List ℕ → Option (List ℕ)) → AreToldAs before holds → outcome_of words holds ≡ refuses refusal
+IsOutcome words before refusal = (holds : List ℕ → Option (List ℕ)) → AreToldAs before holds → IsRefusal (outcome_of words holds) refusal
+
+-- what refuses is the refusal
+refuses_so : (outcome : Outcome) (refusal : Refusal) → outcome ≡ refuses refusal → IsRefusal outcome refusal
+refuses_so outcome refusal is = subst (λ o. IsRefusal o refusal) (sym is) refl
 
 -- a name that is told to be absent holds nothing
 holds_nothing : (before : FilesView) (holds : List ℕ → Option (List ℕ)) (name : List ℕ) → before.held name ≡ absent → AreToldAs before holds → holds name ≡ None
@@ -114,23 +124,35 @@ no_fault (contents bytes) before after calm h = absurd (calm h)
 first_absent : (words : List (List ℕ)) (before : FilesView) (command : Command) (name : List ℕ) → command_of words ≡ Some command → name ≡ first_name command → before.held name ≡ absent → IsOutcome words before (cannot_read name)
 first_absent words before command name given is none holds told =
     let nothing : holds (first_name command) ≡ None = subst (λ name. holds name ≡ None) is (holds_nothing before holds name none told) in
-    ap (outcome_of_command holds) given ∙ ap (λ file. outcome_for command file (holds (second_name command))) nothing ∙ ap (λ name. refuses (cannot_read name)) (sym is)
+    refuses_so (outcome_of words holds) (cannot_read name)
+    (ap (outcome_of_command holds) given ∙ ap (λ file. outcome_for command file (holds (second_name command))) nothing ∙ ap (λ name. refuses (cannot_read name)) (sym is))
+
+-- a command that opens two files refuses where the second is absent
+opens_second : (command : Command) (first second : List ℕ) (t : TimedView) → Opens command first second → (first_name command ≡ first) × (second_name command ≡ second) × (work_of command None t ≡ refuses (cannot_read second))
+opens_second (plan name series pivots) first second t opens = absurd opens
+opens_second (prices name series pivots) first second t opens = absurd opens
+opens_second (check name certificate series) first second t opens = (opens.0, opens.1, ap (λ n. refuses (cannot_read n)) opens.1)
+opens_second (audit name other periods) first second t opens = (opens.0, opens.1, ap (λ n. refuses (cannot_read n)) opens.1)
 
 -- behind a platform that was read, the second file is absent
 second_absent : (words : List (List ℕ)) (before after : FilesView) (command : Command) (name : List ℕ) → command_of words ≡ Some command → IsSecondFault command before after name → before.held name ≡ absent → IsOutcome words before (cannot_read name)
 second_absent words before after command name given fault none holds told =
-    let nothing : holds name ≡ None = holds_nothing before holds name none told in
-    let first : holds fault.first ≡ Some fault.platform.bytes = same_file (before.held fault.first) (holds fault.first) (Some fault.platform.bytes) (told fault.first) fault.platform.file in
-    ap (outcome_of_command holds) (given ∙ ap Some fault.is_check)
-    ∙ ap (λ file. outcome_for (check fault.first name fault.series) file (holds name)) first
-    ∙ fault.short (check_of_name name (holds name))
-    ∙ ap (λ file. check_of_name name file fault.timed) nothing
+    let opens = opens_second command fault.first name fault.timed fault.opens in
+    let nothing : holds (second_name command) ≡ None = ap holds opens.1 ∙ holds_nothing before holds name none told in
+    let first : holds (first_name command) ≡ Some fault.platform.bytes = ap holds opens.0 ∙ same_file (before.held fault.first) (holds fault.first) (Some fault.platform.bytes) (told fault.first) fault.platform.file in
+    refuses_so (outcome_of words holds) (cannot_read name)
+    (ap (outcome_of_command holds) given
+    ∙ ap (λ file. outcome_for command file (holds (second_name command))) first
+    ∙ ap (λ file. outcome_for command (Some fault.platform.bytes) file) nothing
+    ∙ fault.short (work_of command None)
+    ∙ opens.2)
 
 -- a cause leads to its refusal, where no fault occurred
 cause_for_is_outcome : (words : List (List ℕ)) (before after : FilesView) (refusal : Refusal) → (Rose before.faults after.faults → ⊥) → (command : Command) → command_of words ≡ Some command →
     IsCauseFor command before after refusal → (refusal ≡ no_memory) ⊎ IsOutcome words before refusal
 cause_for_is_outcome words before after usage calm command given cause = absurd cause
-cause_for_is_outcome words before after (refused reason) calm command given cause = inr (λ holds told. words_come_to words before holds command (refuses (refused reason)) told given cause)
+cause_for_is_outcome words before after (refused reason) calm command given cause =
+    inr (λ holds told. subst (λ o. IsRefusal o (refused reason)) (sym (words_come_to words before holds command cause.outcome told given cause.comes)) cause.refusal)
 cause_for_is_outcome words before after (cannot_read name) calm command given (inl fault) =
     inr (first_absent words before command name given fault.is_first (no_fault (before.held name) _ _ calm fault.cause))
 cause_for_is_outcome words before after (cannot_read name) calm command given (inr fault) =
@@ -139,7 +161,7 @@ cause_for_is_outcome words before after no_memory calm command given cause = inl
 
 cause_is_outcome : (words : List (List ℕ)) (before after : FilesView) (refusal : Refusal) → (Rose before.faults after.faults → ⊥) →
     IsCause words before after refusal → (refusal ≡ no_memory) ⊎ IsOutcome words before refusal
-cause_is_outcome words before after usage calm cause = inr (λ holds told. ap (outcome_of_command holds) cause)
+cause_is_outcome words before after usage calm cause = inr (λ holds told. refuses_so (outcome_of words holds) usage (ap (outcome_of_command holds) cause))
 cause_is_outcome words before after (refused reason) calm cause = cause_for_is_outcome words before after (refused reason) calm cause.command cause.given cause.holds
 cause_is_outcome words before after (cannot_read name) calm cause = cause_for_is_outcome words before after (cannot_read name) calm cause.command cause.given cause.holds
 cause_is_outcome words before after no_memory calm cause = inl refl
@@ -219,26 +241,23 @@ module _ (words : List (List ℕ)) (before after : FilesView) (empty full : Sink
     | inr attempt ↦ elim attempt.ends [
       | inl whole ↦ elim (cause_is_outcome words before after attempt.refusal calm attempt.cause) [
         | inl memory ↦ inr (whole.0 ∙ ap status_of memory)
-        | inr due ↦ absurd (subst IsText (due holds told) outcome)
+        | inr due ↦ absurd (text_or_refusal (outcome_of words holds) attempt.refusal outcome (due holds told))
       ]
       | inr cut ↦ absurd (calm_sink cut.1.cause)
     ]
   ]
 
-  pub exact : (holds : List ℕ → Option (List ℕ)) (refusal : Refusal) → AreToldAs before holds → outcome_of words holds ≡ refuses refusal →
+  pub exact : (holds : List ℕ → Option (List ℕ)) (refusal : Refusal) → AreToldAs before holds → IsRefusal (outcome_of words holds) refusal →
       (Rose before.faults after.faults → ⊥) → (Rose empty.faults full.faults → ⊥) → (result ≡ status_of refusal) ⊎ (result ≡ status.NoMemory)
   exact holds refusal told outcome calm calm_sink = elim response [
     | inl attempt ↦
         let made = attempt.answer.holds in
-        let refused_too : made.outcome ≡ refuses refusal = sym (words_come_to words before holds attempt.answer.command made.outcome told attempt.answer.given made.comes) ∙ outcome in
-        absurd (subst (λ is. IsPrint is attempt.text) refused_too made.due)
+        let refused_too : IsRefusal made.outcome refusal = subst (λ o. IsRefusal o refusal) (words_come_to words before holds attempt.answer.command made.outcome told attempt.answer.given made.comes) outcome in
+        absurd (print_or_refusal made.outcome attempt.text refusal made.due refused_too)
     | inr attempt ↦ elim attempt.ends [
       | inl whole ↦ elim (cause_is_outcome words before after attempt.refusal calm attempt.cause) [
         | inl memory ↦ inr (whole.0 ∙ ap status_of memory)
-        | inr due ↦
-            let both : refuses refusal ≡ refuses attempt.refusal = sym outcome ∙ due holds told in
-            let one : attempt.refusal ≡ refusal = cc in
-            inl (whole.0 ∙ ap status_of one)
+        | inr due ↦ inl (whole.0 ∙ one_status (outcome_of words holds) attempt.refusal refusal (due holds told) outcome)
       ]
       | inr cut ↦ absurd (calm_sink cut.1.cause)
     ]

@@ -1,9 +1,8 @@
 -- What the work of each command comes to, from what was read of its files.
-use Rattle.std.proofs.Common.{◌≡◌, ◌∙◌, ℕ, suc, ◌+◌, ◌*◌, nat_abs, option_and_then, ◌<◌, ◌≤◌, nat_lt, true, false, cond, List, [], ◌∷◌, ◌++◌, codes, decimal, length, replicate, Option, Some, None, Result, Ok, Err, MatchResult, refl, sym, ap, subst, arith, inl, inr}
+use Rattle.std.proofs.Common.{◌≡◌, ◌∙◌, ℕ, suc, ◌+◌, ◌*◌, nat_abs, option_and_then, ◌<◌, ◌≤◌, nat_lt, true, false, cond, List, [], ◌∷◌, ◌++◌, length, replicate, Option, Some, None, Result, Ok, Err, MatchResult, refl, sym, ap, subst, arith, inl, inr}
 use Rattle.std.proofs.lemmas.Bool.{lt-ltb, le-ltb}
 use Rattle.std.proofs.lemmas.List.{length-replicate, append_assoc}
 use Rattle.std.specs.Result.{IsErr, IsErrAnd}
-use Rattle.std.specs.Fmt.{signed_decimal}
 use Rattle.text_lines.specs.Lines.{line}
 use Rattle.outside_io.specs.Files.{Told, untold, absent, contents, FilesView, MayFail, HasCause}
 use Rattle.outside_io.specs.Faults.{raised}
@@ -15,7 +14,7 @@ use Rattle.platform_file.specs.declared.fault.PlatformFault.{PlatformFault}
 use Rattle.platform_file.specs.declared.fault.PlatformFault.TheVariants as fault
 use Rattle.platform_file.specs.declared.fault.TimedFault.{TimedFault}
 use Rattle.platform_file.specs.declared.fault.TimedFault.TheVariants as timed_fault
-use Rattle.platform_file.specs.Ticks.{TimedView, timed_of, IsTimedFault}
+use Rattle.platform_file.specs.Ticks.{TimedView, IsTimed, timed_of, IsTimedFault}
 use Rattle.linear_program.specs.Certificates.{CertificateView}
 use Rattle.planner.specs.declared.fault.PlanFault.{PlanFault}
 use Rattle.planner.specs.declared.fault.PlanFault.TheVariants as plans
@@ -28,11 +27,12 @@ use Rattle.schedule_model.specs.declared.schedule.Series.{Series}
 use Rattle.schedule_model.specs.declared.schedule.Series.TheVariants.{Tasking}
 use Rattle.schedule_model.specs.Throughput.{IsUpperRate}
 use Rattle.dual_checker.specs.Texts.{certificate_text}
-use Rattle.steady_top.specs.Refusals.{Reason, limit, not_toml, bad_field, twice_named, unknown, target_is_master, target_twice, self_link, twice_linked, bad_ratio, pivot, spent, period, long_certificate, Refusal, usage, refused, cannot_read, no_memory, platform_refusal, timed_refusal, plan_refusal}
-use Rattle.command_words.specs.Words.{Command, plan, prices, check}
-use Rattle.steady_top.specs.Outcomes.{first_name, second_name, Outcome, prints, plans as plans_of, refuses, with_timed, with_platform, with_file, planned, priced, judged, judged_reading, check_of_file, upper_text, work_of}
-use Rattle.steady_top.specs.Answers.{MayBe, ComesTo, IsMade, IsCauseFor}
-use Rattle.steady_top.specs.Planned.{IsPlatformRead, IsPlatformFault, IsCertificateRead, IsCertificateFault, IsProved, IsJudged}
+use Rattle.steady_top.specs.Refusals.{Reason, limit, not_toml, bad_field, twice_named, unknown, target_is_master, target_twice, self_link, twice_linked, bad_ratio, pivot, spent, period, long_certificate, long_plan, Refusal, usage, refused, cannot_read, no_memory, platform_refusal, timed_refusal, plan_refusal}
+use Rattle.command_words.specs.Words.{Command, plan, prices, check, audit}
+use Rattle.steady_top.specs.Audits.{IsAudit}
+use Rattle.steady_top.specs.Outcomes.{first_name, second_name, Outcome, prints, plans as plans_of, audits, refuses, with_timed, with_platform, with_file, planned, priced, judged, judged_reading, check_of_file, most_plan_bytes, audit_of_file, work_of}
+use Rattle.steady_top.specs.Answers.{MayBe, ComesTo, IsMade, Opens, IsRefusedFor, IsSecondFault, IsCauseFor}
+use Rattle.steady_top.specs.Planned.{IsPlatformRead, IsFileFault, IsPlatformFault, IsCertificateRead, IsCertificateFault, IsProved, IsJudged, IsPlanRead, IsPlanFault, IsAuditFault}
 
 -- the bytes that were read may be what is told
 pub read_may_be : (told : Told) (bytes : List ℕ) → MayHold told bytes → MayBe told (Some bytes)
@@ -110,16 +110,20 @@ comes_of command before after t second outcome read told is = record {
   is = read.short (work_of command second) ∙ is;
 }
 
+-- what a command comes to where it refuses
+refused_for_reason : (command : Command) (before : FilesView) (reason : Reason) → ComesTo command before (refuses (refused reason)) → IsRefusedFor command before reason
+refused_for_reason command before reason comes = record { outcome = refuses (refused reason); comes = comes; refusal = refl }
+
 -- why a platform file isn't read is why the command is refused
 pub platform_fault : (command : Command) (before after : FilesView) (refusal : Refusal) → IsPlatformFault before (first_name command) after refusal → IsCauseFor command before after refusal
 platform_fault command before after usage fault = absurd fault
-platform_fault command before after (refused reason) fault = record {
+platform_fault command before after (refused reason) fault = refused_for_reason command before reason (record {
   first = Some fault.bytes;
   second = chosen (before.held (second_name command));
   first_told = fault.file;
   second_told = chosen_may_be (before.held (second_name command));
   is = fault.outcome (work_of command (chosen (before.held (second_name command))));
-}
+})
 platform_fault command before after (cannot_read named) fault =
     inl (record { is_first = fault.same; cause = subst (λ name. HasCause before name after) (sym fault.same) fault.cause; one_open = fault.one_open })
 platform_fault command before after no_memory fault = tt
@@ -127,9 +131,12 @@ platform_fault command before after no_memory fault = tt
 -- a fault of the planner is why the command is refused
 refused_for : (command : Command) (before middle after : FilesView) (t : TimedView) (second : Option (List ℕ)) → IsPlatformRead before (first_name command) middle t → MayBe (before.held (second_name command)) second →
     (fault : PlanFault) (refusal : Refusal) → ((fault ≡ plans.NoMemory → ⊥) → work_of command second t ≡ refuses (plan_refusal fault)) → refusal ≡ plan_refusal fault → IsCauseFor command before after refusal
-refused_for command before middle after t second read told (plans.Pivot pivots row column) refusal exact is = rw is (comes_of command before middle t second (refuses (refused (pivot pivots row column))) read told (exact (λ e. cc)))
-refused_for command before middle after t second read told (plans.Spent allowed) refusal exact is = rw is (comes_of command before middle t second (refuses (refused (spent allowed))) read told (exact (λ e. cc)))
-refused_for command before middle after t second read told (plans.Period step left right) refusal exact is = rw is (comes_of command before middle t second (refuses (refused (period step left right))) read told (exact (λ e. cc)))
+refused_for command before middle after t second read told (plans.Pivot pivots row column) refusal exact is =
+    rw is (refused_for_reason command before (pivot pivots row column) (comes_of command before middle t second (refuses (refused (pivot pivots row column))) read told (exact (λ e. cc))))
+refused_for command before middle after t second read told (plans.Spent allowed) refusal exact is =
+    rw is (refused_for_reason command before (spent allowed) (comes_of command before middle t second (refuses (refused (spent allowed))) read told (exact (λ e. cc))))
+refused_for command before middle after t second read told (plans.Period step left right) refusal exact is =
+    rw is (refused_for_reason command before (period step left right) (comes_of command before middle t second (refuses (refused (period step left right))) read told (exact (λ e. cc))))
 refused_for command before middle after t second read told plans.NoMemory refusal exact is = rw is tt
 
 -- why there are no prices is why the command is refused
@@ -174,23 +181,26 @@ told_before : (before middle : FilesView) (name : List ℕ) (t : TimedView) (sec
     MayBe (before.held second) file
 told_before before middle name t second file read may = subst (λ told. MayBe told file) (read.held second) may
 
+-- the second file can't be opened or read
+second_fault : (command : Command) (before middle after : FilesView) (name second named : List ℕ) (t : TimedView) → IsPlatformRead before name middle t → Opens command name named → IsFileFault middle second after named →
+    IsSecondFault command before after named
+second_fault command before middle after name second named t read opens fault = record {
+  first = name;
+  opens = opens;
+  timed = t;
+  platform = read.platform;
+  short = read.short;
+  cause = subst (λ told. MayFail told before.faults after.faults) (read.held named) (subst (λ faults. MayFail (middle.held named) faults after.faults) read.calm (subst (λ name. HasCause middle name after) (sym fault.same) fault.cause));
+  two_opens = fault.one_open ∙ ap (λ opens. raised opens 1) read.one_open;
+}
+
 -- why a certificate isn't read is why the command is refused
 pub certificate_fault : (before middle after : FilesView) (name second : List ℕ) (series : Series) (t : TimedView) → IsPlatformRead before name middle t → (refusal : Refusal) →
     IsCertificateFault t middle second after refusal → IsCauseFor (check name second series) before after refusal
 certificate_fault before middle after name second series t read usage fault = absurd fault
 certificate_fault before middle after name second series t read (refused reason) fault =
-    comes_of (check name second series) before middle t (Some fault.bytes) (refuses (refused reason)) read (told_before before middle name t second (Some fault.bytes) read fault.file) fault.outcome
-certificate_fault before middle after name second series t read (cannot_read named) fault =
-    inr (record {
-      first = name;
-      series = series;
-      is_check = ap (λ other. check name other series) (sym fault.same);
-      timed = t;
-      platform = read.platform;
-      short = read.short;
-      cause = subst (λ told. MayFail told before.faults after.faults) (read.held named) (subst (λ faults. MayFail (middle.held named) faults after.faults) read.calm (subst (λ name. HasCause middle name after) (sym fault.same) fault.cause));
-      two_opens = fault.one_open ∙ ap (λ opens. raised opens 1) read.one_open;
-    })
+    refused_for_reason (check name second series) before reason (comes_of (check name second series) before middle t (Some fault.bytes) (refuses (refused reason)) read (told_before before middle name t second (Some fault.bytes) read fault.file) fault.outcome)
+certificate_fault before middle after name second series t read (cannot_read named) fault = inr (second_fault (check name second series) before middle after name second named t read (refl, sym fault.same) fault)
 certificate_fault before middle after name second series t read no_memory fault = tt
 
 -- what the check of a certificate that was read says is what the command comes to
@@ -220,9 +230,44 @@ module _ (before middle after : FilesView) (name second : List ℕ) (series : Se
 
   pub judged_is_cause : (refusal : Refusal) → IsJudged t c refusal → IsCauseFor (check name second series) before after refusal
   judged_is_cause usage fault = absurd fault
-  judged_is_cause (refused reason) fault = comes_to (refuses (refused reason)) fault
+  judged_is_cause (refused reason) fault = refused_for_reason (check name second series) before reason (comes_to (refuses (refused reason)) fault)
   judged_is_cause (cannot_read named) fault = absurd fault
   judged_is_cause no_memory fault = tt
+
+-- why a plan's file isn't read is why the command is refused
+pub audit_fault : (before middle after : FilesView) (name second : List ℕ) (periods : ℕ) (t : TimedView) → IsPlatformRead before name middle t → (refusal : Refusal) →
+    IsPlanFault t periods middle second after refusal → IsCauseFor (audit name second periods) before after refusal
+audit_fault before middle after name second periods t read usage fault = absurd fault
+audit_fault before middle after name second periods t read (refused reason) fault =
+    refused_for_reason (audit name second periods) before reason
+    (comes_of (audit name second periods) before middle t (Some fault.bytes) (refuses (refused reason)) read (told_before before middle name t second (Some fault.bytes) read fault.file) fault.outcome)
+audit_fault before middle after name second periods t read (cannot_read named) fault = inr (second_fault (audit name second periods) before middle after name second named t read (refl, sym fault.same) fault)
+audit_fault before middle after name second periods t read no_memory fault = tt
+
+-- what the audit of a plan that was read says is what the command comes to
+module _ (before middle after : FilesView) (name second : List ℕ) (periods : ℕ) (t : TimedView) (bytes : List ℕ) (timed : IsTimed t) (read : IsPlatformRead before name middle t)
+    (plan_read : IsPlanRead t periods middle second after bytes) where
+  audit_comes : ComesTo (audit name second periods) before (audits periods t bytes)
+  audit_comes = comes_of (audit name second periods) before middle t (Some bytes) (audits periods t bytes) read (told_before before middle name t second (Some bytes) read plan_read.file) plan_read.short
+
+  pub audited_is_made : (text : List ℕ) → IsAudit periods t bytes text → IsMade (audit name second periods) before after text
+  audited_is_made text audited = record {
+    outcome = audits periods t bytes;
+    comes = audit_comes;
+    due = audited;
+    claim = record { timed = t; platform = read.platform; bytes = bytes; file = told_before before middle name t second (Some bytes) read plan_read.file; audit = audited };
+    calm = plan_read.calm ∙ read.calm;
+  }
+
+  pub audited_is_cause : (refusal : Refusal) → IsAuditFault periods t bytes refusal → IsCauseFor (audit name second periods) before after refusal
+  audited_is_cause usage fault = absurd fault
+  audited_is_cause (refused reason) fault = record {
+    outcome = audits periods t bytes;
+    comes = audit_comes;
+    refusal = record { timed = timed; small = omega (arith, plan_read.size); reasoned = fault };
+  }
+  audited_is_cause (cannot_read named) fault = absurd fault
+  audited_is_cause no_memory fault = tt
 
 -- what holds of an error holds of the result that has it
 pub of_error : {A E : Type 0} (P : A → Type 0) {Q R : E → Type 0} (r : Result A E) → IsErr r → IsErrAnd r R → ((e : E) → R e → Q e) → MatchResult r P Q
@@ -235,27 +280,30 @@ pub both_ways : {A E : Type 0} {P P' : A → Type 0} {Q Q' : E → Type 0} (r : 
 both_ways (Ok x) f g h = f x h
 both_ways (Err e) f g h = g e h
 
--- the three parts of the line of a certificate that proves
-pub line_in_parts : (t : TimedView) (c : CertificateView) {start first second third : List ℕ} → start ≡ [] → first ≡ start ++ (codes "upper " ++ signed_decimal c.best) →
-    second ≡ first ++ (codes " tasks per " ++ signed_decimal c.scale) → third ≡ second ++ line (codes " ticks, unit " ++ decimal t.unit) → third ≡ upper_text t c
-line_in_parts t c e f g h =
-    let best = signed_decimal c.best in
-    let scale = signed_decimal c.scale in
-    let ticks = decimal t.unit in
-    h ∙ ap (λ xs. xs ++ line (codes " ticks, unit " ++ ticks)) (g ∙ ap (λ xs. xs ++ (codes " tasks per " ++ scale)) (f ∙ ap (λ xs. xs ++ (codes "upper " ++ best)) e))
-    ∙ append_assoc (codes "upper " ++ best) (codes " tasks per " ++ scale) (line (codes " ticks, unit " ++ ticks))
-    ∙ append_assoc (codes "upper ") best ((codes " tasks per " ++ scale) ++ line (codes " ticks, unit " ++ ticks))
-    ∙ ap (λ xs. codes "upper " ++ (best ++ xs)) (append_assoc (codes " tasks per ") scale (line (codes " ticks, unit " ++ ticks)))
-    ∙ sym (ended best scale ticks)
+-- three words and three texts, one behind the other, and a line feed
+pub line_in_parts : (a x b y c z : List ℕ) {start first second third : List ℕ} → start ≡ [] → first ≡ start ++ (a ++ x) → second ≡ first ++ (b ++ y) → third ≡ second ++ line (c ++ z) →
+    third ≡ line (a ++ (x ++ (b ++ (y ++ (c ++ z)))))
+line_in_parts a x b y c z e f g h =
+    h ∙ ap (λ xs. xs ++ line (c ++ z)) (g ∙ ap (λ xs. xs ++ (b ++ y)) (f ∙ ap (λ xs. xs ++ (a ++ x)) e))
+    ∙ append_assoc (a ++ x) (b ++ y) (line (c ++ z))
+    ∙ append_assoc a x ((b ++ y) ++ line (c ++ z))
+    ∙ ap (λ xs. a ++ (x ++ xs)) (append_assoc b y (line (c ++ z)))
+    ∙ sym ended
   where
-    ended : (best scale ticks : List ℕ) →
-        line (codes "upper " ++ (best ++ (codes " tasks per " ++ (scale ++ (codes " ticks, unit " ++ ticks))))) ≡ codes "upper " ++ (best ++ (codes " tasks per " ++ (scale ++ line (codes " ticks, unit " ++ ticks))))
-    ended best scale ticks =
-        append_assoc (codes "upper ") (best ++ (codes " tasks per " ++ (scale ++ (codes " ticks, unit " ++ ticks)))) (10 ∷ [])
-        ∙ ap (λ xs. codes "upper " ++ xs) (append_assoc best (codes " tasks per " ++ (scale ++ (codes " ticks, unit " ++ ticks))) (10 ∷ []))
-        ∙ ap (λ xs. codes "upper " ++ (best ++ xs)) (append_assoc (codes " tasks per ") (scale ++ (codes " ticks, unit " ++ ticks)) (10 ∷ []))
-        ∙ ap (λ xs. codes "upper " ++ (best ++ (codes " tasks per " ++ xs))) (append_assoc scale (codes " ticks, unit " ++ ticks) (10 ∷ []))
+    ended : line (a ++ (x ++ (b ++ (y ++ (c ++ z))))) ≡ a ++ (x ++ (b ++ (y ++ line (c ++ z))))
+    ended =
+        append_assoc a (x ++ (b ++ (y ++ (c ++ z)))) (10 ∷ [])
+        ∙ ap (λ xs. a ++ xs) (append_assoc x (b ++ (y ++ (c ++ z))) (10 ∷ []))
+        ∙ ap (λ xs. a ++ (x ++ xs)) (append_assoc b (y ++ (c ++ z)) (10 ∷ []))
+        ∙ ap (λ xs. a ++ (x ++ (b ++ xs))) (append_assoc y (c ++ z) (10 ∷ []))
 
 -- a certificate that is too long
 pub long_is_refused : (t : TimedView) (bytes : List ℕ) → most_bytes < length bytes → check_of_file t bytes ≡ refuses (refused long_certificate)
 long_is_refused t bytes h = rw (lt-ltb most_bytes (length bytes) h) refl
+
+-- a plan that is too long
+pub long_plan_refused : (t : TimedView) (periods : ℕ) (bytes : List ℕ) → most_plan_bytes < length bytes → audit_of_file periods t bytes ≡ refuses (refused long_plan)
+long_plan_refused t periods bytes h = rw (lt-ltb most_plan_bytes (length bytes) h) refl
+
+pub short_plan_audited : (t : TimedView) (periods : ℕ) (bytes : List ℕ) → length bytes ≤ most_plan_bytes → audit_of_file periods t bytes ≡ audits periods t bytes
+short_plan_audited t periods bytes h = rw (le-ltb most_plan_bytes (length bytes) h) refl

@@ -6,7 +6,6 @@ use Rattle.outside_io.specs.Sinks.{SinkView, IsWholeWritten, IsCutOff}
 use Rattle.platform_file.specs.Platform.{PlatformView}
 use Rattle.platform_file.specs.Reading.{platform_of}
 use Rattle.platform_file.specs.Ticks.{TimedView, timed_of}
-use Rattle.schedule_model.specs.declared.schedule.Series.{Series}
 use Rattle.schedule_model.specs.declared.schedule.Series.TheVariants.{Tasking}
 use Rattle.schedule_model.specs.Throughput.{IsUpperRate}
 use Rattle.linear_program.specs.Certificates.{CertificateView}
@@ -23,8 +22,9 @@ use Rattle.steady_top.specs.declared.status.Status.TheVariants as status
 use Rattle.period_table.specs.Best.{IsBest}
 use Rattle.plan_text.specs.Texts.{plan_text}
 use Rattle.steady_top.specs.Refusals.{Reason, Refusal, usage, refused, cannot_read, no_memory, reason_status, status_of, error_line}
-use Rattle.command_words.specs.Words.{Command, plan, prices, check, audit}
-use Rattle.steady_top.specs.Outcomes.{first_name, second_name, command_of, upper_text, Outcome, refuses, IsPrint, with_file, outcome_for}
+use Rattle.command_words.specs.Words.{Command, plan, prices, check, audit, command_of}
+use Rattle.steady_top.specs.Audits.{IsAudit}
+use Rattle.steady_top.specs.Outcomes.{first_name, second_name, upper_text, Outcome, IsPrint, IsRefusal, with_file, outcome_for}
 
 -- this may be what a name holds of which that is told
 abbrev pub MayBe : Told → Option (List ℕ) → Type 0
@@ -89,12 +89,27 @@ pub record IsCheckedText (before : FilesView) (name second text : List ℕ) : Ty
   pub rate : IsUpperRate timed Tasking (nat_abs certificate.best * timed.unit) (nat_abs certificate.scale)
   pub is_line : text ≡ upper_text timed certificate
 
+-- the text has the numbers of the plan that the second file's bytes are, over so many periods: its schedule is well-formed, one-port and
+-- supplied
+pub record IsAuditedText (periods : ℕ) (before : FilesView) (name second text : List ℕ) : Type 0 where
+  pub timed : TimedView
+  pub platform : IsPlatformOf before name timed
+  pub bytes : List ℕ
+  pub file : MayBe (before.held second) (Some bytes)
+  pub audit : IsAudit periods timed bytes text
+
 -- what a command's text claims
 abbrev pub IsClaim : Command → FilesView → List ℕ → Type 0
 IsClaim (plan name series pivots) before text = IsBestText pivots before name text
 IsClaim (prices name series pivots) before text = IsPricedText pivots before name text
 IsClaim (check name second series) before text = IsCheckedText before name second text
-IsClaim (audit name other periods) before text = ⊥
+IsClaim (audit name other periods) before text = IsAuditedText periods before name other text
+
+-- a command comes to a refusal
+pub record IsRefusedFor (command : Command) (before : FilesView) (reason : Reason) : Type 0 where
+  pub outcome : Outcome
+  pub comes : ComesTo command before outcome
+  pub refusal : IsRefusal outcome (refused reason)
 
 -- a command's text is due, where no call of the files failed, and is what it claims
 pub record IsMade (command : Command) (before after : FilesView) (text : List ℕ) : Type 0 where
@@ -110,11 +125,17 @@ pub record IsFirstFault (command : Command) (before after : FilesView) (name : L
   pub cause : HasCause before name after
   pub one_open : after.opens ≡ raised before.opens 1
 
+-- the command opens these two files
+abbrev pub Opens : Command → List ℕ → List ℕ → Type 0
+Opens (plan name series pivots) first second = ⊥
+Opens (prices name series pivots) first second = ⊥
+Opens (check name certificate series) first second = (name ≡ first) × (certificate ≡ second)
+Opens (audit name other periods) first second = (name ≡ first) × (other ≡ second)
+
 -- behind a platform that was read, the second file of a command couldn't be opened or read, in the second open of the call
 pub record IsSecondFault (command : Command) (before after : FilesView) (name : List ℕ) : Type 0 where
   pub first : List ℕ
-  pub series : Series
-  pub is_check : command ≡ check first name series
+  pub opens : Opens command first name
   pub timed : TimedView
   pub platform : IsPlatformOf before first timed
   pub short : (next : TimedView → Outcome) → with_file next platform.bytes ≡ next timed
@@ -126,7 +147,7 @@ abbrev pub IsCauseFor : Command → FilesView → FilesView → Refusal → Type
 IsCauseFor command before after (cannot_read name) = IsFirstFault command before after name ⊎ IsSecondFault command before after name
 IsCauseFor command before after no_memory = Unit {0}
 IsCauseFor command before after usage = ⊥
-IsCauseFor command before after (refused reason) = ComesTo command before (refuses (refused reason))
+IsCauseFor command before after (refused reason) = IsRefusedFor command before reason
 
 -- the words give a command of which this holds
 pub record IsOfCommand (words : List (List ℕ)) (P : Command → Type 0) : Type 0 where

@@ -1,7 +1,7 @@
 -- The refusal that a fault of the code stands for.
 use Rattle.steady_top.specs.declared.fault.TopFault.{TopFault}
 use Rattle.steady_top.specs.declared.fault.TopFault.TheVariants as top
-use Rattle.steady_top.specs.Refusals.{Refusal, usage, cannot_read, refused, no_memory, limit, not_toml, bad_field, twice_named, unknown, target_is_master, target_twice, self_link, twice_linked, bad_ratio, unit, pivot, spent, period, long_certificate, certificate_line, negative_price, uncovered_column, passed_value, check_overflow}
+use Rattle.steady_top.specs.Refusals.{Refusal, usage, cannot_read, refused, no_memory, limit, not_toml, bad_field, twice_named, unknown, target_is_master, target_twice, self_link, twice_linked, bad_ratio, unit, pivot, spent, period, long_certificate, certificate_line, negative_price, uncovered_column, passed_value, check_overflow, long_plan, plan_line, long_operations, breach}
 
 -- each fault is the refusal of its name
 abbrev pub refusal_of : TopFault → Refusal
@@ -27,4 +27,8 @@ refusal_of (top.NegativePrice row) = refused (negative_price row)
 refusal_of (top.UncoveredColumn column) = refused (uncovered_column column)
 refusal_of top.PassedValue = refused passed_value
 refusal_of (top.CheckOverflow column) = refused (check_overflow column)
+refusal_of top.LongPlan = refused long_plan
+refusal_of (top.PlanLine number) = refused (plan_line number)
+refusal_of top.LongOperations = refused long_operations
+refusal_of (top.Breach index rule) = refused (breach index rule)
 refusal_of top.NoMemory = no_memory

@@ -1,4 +1,5 @@
 pub mod Refusals
+pub mod Audits
 pub mod Outcomes
 pub mod Answers
 pub mod Exits

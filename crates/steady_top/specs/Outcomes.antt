@@ -1,8 +1,7 @@
 -- What the program answers, for given words and contents of files (this project).
-use Rattle.std.specs.Prelude.{◌≡◌, ℕ, ◌+◌, cond, List, ◌++◌, length, Option, Some, None, option_and_then, Result, Ok, Err, nat_lt, codes, decimal}
+use Rattle.std.specs.Prelude.{◌≡◌, ℕ, ◌+◌, cond, List, ◌++◌, length, Option, Some, None, Result, Ok, Err, nat_lt, codes, decimal}
 use Rattle.std.specs.Fmt.{signed_decimal}
-use Rattle.command_words.specs.Words.{Command, plan, prices, check, audit}
-use Rattle.command_words.specs.Words.{command_of as given_by}
+use Rattle.command_words.specs.Words.{Command, plan, prices, check, audit, command_of}
 use Rattle.platform_file.specs.declared.fault.PlatformFault.{PlatformFault}
 use Rattle.platform_file.specs.declared.fault.Kind.TheVariants.{Text}
 use Rattle.platform_file.specs.Platform.{PlatformView}
@@ -25,18 +24,8 @@ use Rattle.planner.specs.Prices.{prices_of}
 use Rattle.planner.specs.Plans.{fault_of, IsPlan}
 use Rattle.text_lines.specs.Lines.{line}
 use Rattle.plan_text.specs.Texts.{plan_text}
-use Rattle.steady_top.specs.Refusals.{Refusal, usage, refused, limit, long_certificate, certificate_line, negative_price, uncovered_column, passed_value, check_overflow, cannot_read, no_memory, platform_refusal, timed_refusal, plan_refusal}
-
--- the commands that are built: all but `audit`
-abbrev pub built : Command → Option Command
-built (plan name series pivots) = Some (plan name series pivots)
-built (prices name series pivots) = Some (prices name series pivots)
-built (check name certificate series) = Some (check name certificate series)
-built (audit name other periods) = None
-
--- the command that the words give, if any
-abbrev pub command_of : List (List ℕ) → Option Command
-command_of words = option_and_then built (given_by words)
+use Rattle.steady_top.specs.Audits.{IsAudit, IsSound, IsUnsound}
+use Rattle.steady_top.specs.Refusals.{Refusal, usage, refused, limit, long_certificate, certificate_line, negative_price, uncovered_column, passed_value, check_overflow, long_plan, cannot_read, no_memory, platform_refusal, timed_refusal, plan_refusal}
 
 -- the file that a command opens first
 abbrev pub first_name : Command → List ℕ
@@ -52,10 +41,12 @@ second_name (prices name series pivots) = name
 second_name (check name certificate series) = certificate
 second_name (audit name other periods) = other
 
--- the program prints these bytes, prints the plan of a platform that is found with at most so many pivots, or refuses
+-- the program prints these bytes, prints the plan of a platform that is found with at most so many pivots, audits the bytes of a plan over
+-- so many periods, or refuses
 pub data Outcome : Type 0 where
   prints : List ℕ → Outcome
   plans : ℕ → TimedView → Outcome
+  audits : ℕ → TimedView → List ℕ → Outcome
   refuses : Refusal → Outcome
 
 -- what comes of a platform that is brought into ticks
@@ -96,13 +87,23 @@ pub record IsPlanText (pivots : ℕ) (t : TimedView) (text : List ℕ) : Type 0 
 abbrev pub IsPrint : Outcome → List ℕ → Type 0
 IsPrint (prints bytes) text = text ≡ bytes
 IsPrint (plans pivots t) text = IsPlanText pivots t text
+IsPrint (audits periods t bytes) text = IsAudit periods t bytes text
 IsPrint (refuses refusal) text = ⊥
 
 -- the outcome is no refusal
 abbrev pub IsText : Outcome → Type 0
 IsText (prints bytes) = Unit {0}
 IsText (plans pivots t) = Unit {0}
+IsText (audits periods t bytes) = IsSound periods t bytes
 IsText (refuses refusal) = ⊥
+
+-- the outcome is this refusal
+abbrev pub IsRefusal : Outcome → Refusal → Type 0
+IsRefusal (prints bytes) refusal = ⊥
+IsRefusal (plans pivots t) refusal = ⊥
+IsRefusal (audits periods t bytes) (refused reason) = IsUnsound periods t bytes reason
+IsRefusal (audits periods t bytes) refusal = ⊥
+IsRefusal (refuses other) refusal = other ≡ refusal
 
 -- the text of a certificate, or why there is none; a run over a bounded programme always has an answer
 abbrev pub priced : Option (Result CertificateView PlanFault) → Outcome
@@ -141,12 +142,25 @@ abbrev pub check_of_name : List ℕ → Option (List ℕ) → TimedView → Outc
 check_of_name name None t = refuses (cannot_read name)
 check_of_name name (Some bytes) t = check_of_file t bytes
 
+-- the most bytes of a plan
+abbrev pub most_plan_bytes : ℕ
+most_plan_bytes = 4194304
+
+-- what comes of the bytes of a plan; of a longer one no more is read than one byte past the limit
+abbrev pub audit_of_file : ℕ → TimedView → List ℕ → Outcome
+audit_of_file periods t bytes = cond (nat_lt most_plan_bytes (length bytes)) (refuses (refused long_plan)) (audits periods t bytes)
+
+-- what the files hold under the name of a plan, if there is such a file
+abbrev pub audit_of_name : List ℕ → ℕ → Option (List ℕ) → TimedView → Outcome
+audit_of_name name periods None t = refuses (cannot_read name)
+audit_of_name name periods (Some bytes) t = audit_of_file periods t bytes
+
 -- what comes of a platform in ticks and of the second file
 abbrev pub work_of : Command → Option (List ℕ) → TimedView → Outcome
 work_of (plan name series pivots) second t = plan_of pivots t
 work_of (prices name series pivots) second t = certificate_for pivots t
 work_of (check name certificate series) second t = check_of_name certificate second t
-work_of (audit name other periods) second t = refuses usage
+work_of (audit name other periods) second t = audit_of_name other periods second t
 
 -- what comes of a command, of what its first name holds and of what its second one holds
 abbrev pub outcome_for : Command → Option (List ℕ) → Option (List ℕ) → Outcome

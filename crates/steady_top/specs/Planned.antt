@@ -1,5 +1,5 @@
 -- What reading a named platform file comes to, and a named certificate (this project).
-use Rattle.std.specs.Prelude.{◌≡◌, ℕ, ◌*◌, nat_abs, List, length, Some, Ok}
+use Rattle.std.specs.Prelude.{◌≡◌, ℕ, ◌*◌, ◌≤◌, nat_abs, List, length, Some, Ok}
 use Rattle.outside_io.specs.Files.{FilesView, HasCause}
 use Rattle.outside_io.specs.Faults.{raised}
 use Rattle.platform_file.specs.Ticks.{TimedView}
@@ -11,7 +11,13 @@ use Rattle.dual_checker.specs.Reading.{certificate_of}
 use Rattle.dual_checker.specs.Verdicts.{verdict_of}
 use Rattle.dual_checker.specs.declared.verdict.Verdict.TheVariants.{Proves}
 use Rattle.steady_top.specs.Refusals.{Reason, Refusal, usage, refused, cannot_read, no_memory}
-use Rattle.steady_top.specs.Outcomes.{Outcome, refuses, with_file, judged_reading, check_of_file, upper_text}
+use Rattle.steady_top.specs.Outcomes.{Outcome, audits, refuses, with_file, judged_reading, check_of_file, upper_text, most_plan_bytes, audit_of_file}
+use Rattle.schedule_model.specs.declared.schedule.Series.{Series}
+use Rattle.schedule_model.specs.declared.schedule.Schedule.{Schedule}
+use Rattle.period_table.specs.declared.table.Table.{Table}
+use Rattle.period_table.specs.TableSchedules.{ops_below, table_schedule}
+use Rattle.plan_text.specs.Reading.{IsPlanOf}
+use Rattle.steady_top.specs.Audits.{most_operations, IsReason}
 use Rattle.steady_top.specs.Answers.{MayBe, IsPlatformOf}
 
 -- the platform of the file was read and brought into ticks, in one open
@@ -74,3 +80,37 @@ IsJudged t c no_memory = Unit {0}
 IsJudged t c usage = ⊥
 IsJudged t c (cannot_read name) = ⊥
 IsJudged t c (refused reason) = judged_reading t (Ok c) ≡ refuses (refused reason)
+
+-- the bytes of a plan's file were read
+pub record IsPlanRead (t : TimedView) (periods : ℕ) (before : FilesView) (name : List ℕ) (after : FilesView) (bytes : List ℕ) : Type 0 where
+  pub file : MayBe (before.held name) (Some bytes)
+  pub size : length bytes ≤ most_plan_bytes
+  pub short : audit_of_file periods t bytes ≡ audits periods t bytes
+  pub calm : after.faults ≡ before.faults
+
+-- what was read of a plan's file is refused
+pub record IsPlanRefused (t : TimedView) (periods : ℕ) (before : FilesView) (name : List ℕ) (reason : Reason) : Type 0 where
+  pub bytes : List ℕ
+  pub file : MayBe (before.held name) (Some bytes)
+  pub outcome : audit_of_file periods t bytes ≡ refuses (refused reason)
+
+-- why a plan's file isn't read
+abbrev pub IsPlanFault : TimedView → ℕ → FilesView → List ℕ → FilesView → Refusal → Type 0
+IsPlanFault t periods before name after (cannot_read named) = IsFileFault before name after named
+IsPlanFault t periods before name after no_memory = Unit {0}
+IsPlanFault t periods before name after usage = ⊥
+IsPlanFault t periods before name after (refused reason) = IsPlanRefused t periods before name reason
+
+-- the schedule is that of the plan, and isn't too long
+pub record IsScheduleOf (periods : ℕ) (t : TimedView) (bytes : List ℕ) (series : Series) (schedule : Schedule) : Type 0 where
+  pub table : Table
+  pub plan : IsPlanOf t bytes series table
+  pub short : length (ops_below t series table periods) ≤ most_operations
+  pub is : schedule ≡ table_schedule t series table periods
+
+-- the plan is refused so; want of memory may come at any time
+abbrev pub IsAuditFault : ℕ → TimedView → List ℕ → Refusal → Type 0
+IsAuditFault periods t bytes no_memory = Unit {0}
+IsAuditFault periods t bytes usage = ⊥
+IsAuditFault periods t bytes (cannot_read name) = ⊥
+IsAuditFault periods t bytes (refused reason) = IsReason periods t bytes reason

@@ -14,6 +14,8 @@ use Rattle.planner.specs.declared.numbers.PeriodStep.{PeriodStep}
 use Rattle.planner.specs.Plans.{step_text}
 use Rattle.ratio_core.specs.declared.text.RatioFault.{RatioFault}
 use Rattle.ratio_core.specs.declared.text.RatioFault.TheVariants as ratio
+use Rattle.schedule_model.specs.declared.breach.Rule.{Rule}
+use Rattle.schedule_model.specs.declared.breach.Rule.TheVariants as rule
 use Rattle.steady_top.specs.declared.status.Status.{Status}
 use Rattle.steady_top.specs.declared.status.Status.TheVariants as status
 use Rattle.text_lines.specs.Lines.{line}
@@ -60,6 +62,14 @@ pub data Reason : Type 0 where
   passed_value : Reason
   -- a sum of this column passes its bound in the check
   check_overflow : ℕ → Reason
+  -- the plan's file is too long
+  long_plan : Reason
+  -- this line isn't a plan's
+  plan_line : ℕ → Reason
+  -- the plan's schedule has too many operations
+  long_operations : Reason
+  -- this operation of the plan's schedule is the first that breaks a rule, and this is the first that it breaks
+  breach : ℕ → Rule → Reason
 
 -- a refusal, with what its error line names
 pub data Refusal : Type 0 where
@@ -110,6 +120,10 @@ reason_status (certificate_line number) = status.Refused
 reason_status (negative_price row) = status.Refused
 reason_status (uncovered_column column) = status.Refused
 reason_status passed_value = status.Refused
+reason_status long_plan = status.TooLong
+reason_status long_operations = status.TooLong
+reason_status (plan_line number) = status.Refused
+reason_status (breach index rule) = status.Refused
 reason_status reason = status.Platform
 
 -- the status with which a refusal ends the program
@@ -131,6 +145,18 @@ abbrev pub cause_text : RatioFault → List ℕ
 cause_text ratio.Shape = codes "shape"
 cause_text ratio.Zero = codes "zero"
 cause_text ratio.TooLarge = codes "too large"
+
+-- the words for a rule
+abbrev pub rule_text : Rule → List ℕ
+rule_text rule.Unit = codes "unit"
+rule_text rule.Order = codes "order"
+rule_text rule.Range = codes "range"
+rule_text rule.Late = codes "late"
+rule_text rule.SendPort = codes "send port"
+rule_text rule.ReceivePort = codes "receive port"
+rule_text rule.ComputePort = codes "compute port"
+rule_text rule.OwnType = codes "own type"
+rule_text rule.Supply = codes "supply"
 
 -- a reason's text
 abbrev pub reason_text : Reason → List ℕ
@@ -154,6 +180,10 @@ reason_text (negative_price row) = codes "certificate: price " ++ (decimal row +
 reason_text (uncovered_column column) = codes "certificate: column " ++ decimal column
 reason_text passed_value = codes "certificate: value"
 reason_text (check_overflow column) = codes "check overflow at column " ++ decimal column
+reason_text long_plan = codes "too long: plan"
+reason_text (plan_line number) = codes "plan: line " ++ decimal number
+reason_text long_operations = codes "too long: operations"
+reason_text (breach index rule) = codes "schedule: operation " ++ (decimal index ++ (codes ": " ++ rule_text rule))
 
 -- the error line's text after `error: `
 abbrev pub refusal_text : Refusal → List ℕ

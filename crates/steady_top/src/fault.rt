@@ -1,7 +1,7 @@
 //! Why the program refuses.
 
 ghost use Rattle.std.specs.Prelude.{◌≡◌, IfOk, string_bytes};
-ghost use Rattle.steady_top.specs.Refusals.{status_of, error_line, cause_text};
+ghost use Rattle.steady_top.specs.Refusals.{status_of, error_line, cause_text, rule_text};
 ghost use Rattle.steady_top.specs.Faults.{refusal_of};
 
 use crate::status::Status;
@@ -9,6 +9,7 @@ use listed::NoMemory;
 use planner::{PeriodStep, PlanFault};
 use platform_file::{Kind, Place, PlatformFault, TimedFault};
 use ratio_core::RatioFault;
+use schedule_model::Rule;
 use std::alloc::Global;
 use std::fmt;
 
@@ -57,6 +58,14 @@ pub enum TopFault<'a> {
     PassedValue,
     /// A product or a sum of this column passes 2^127 - 1 in size in the check.
     CheckOverflow(u32),
+    /// The plan's file is longer than 4 MiB.
+    LongPlan,
+    /// This line, counted from 1, is the first at which a plan isn't one.
+    PlanLine(u64),
+    /// A plan's schedule has more than 4,000,000 operations.
+    LongOperations,
+    /// This operation of a plan's schedule, counted from 0, is the first that breaks a rule, and this is the first that it breaks.
+    Breach(u64, Rule),
     /// The file with this name can't be opened or read.
     CannotRead(&'a str),
     /// Memory ran out.
@@ -71,6 +80,23 @@ fn cause_word(cause: RatioFault) -> &'static str
         RatioFault::Shape => "shape",
         RatioFault::Zero => "zero",
         RatioFault::TooLarge => "too large",
+    }
+}
+
+/// The words for a rule of schedules.
+fn rule_words(rule: Rule) -> &'static str
+    ensures { result.now ≡ rule_text rule }
+{
+    match rule {
+        Rule::Unit => "unit",
+        Rule::Order => "order",
+        Rule::Range => "range",
+        Rule::Late => "late",
+        Rule::SendPort => "send port",
+        Rule::ReceivePort => "receive port",
+        Rule::ComputePort => "compute port",
+        Rule::OwnType => "own type",
+        Rule::Supply => "supply",
     }
 }
 
@@ -122,6 +148,13 @@ impl fmt::Display for TopFault<'_> {
             TopFault::UncoveredColumn(column) => write!(f, "certificate: column {column}"),
             TopFault::PassedValue => write!(f, "certificate: value"),
             TopFault::CheckOverflow(column) => write!(f, "check overflow at column {column}"),
+            TopFault::LongPlan => write!(f, "too long: plan"),
+            TopFault::PlanLine(number) => write!(f, "plan: line {number}"),
+            TopFault::LongOperations => write!(f, "too long: operations"),
+            TopFault::Breach(index, rule) => {
+                let rule = rule_words(*rule);
+                write!(f, "schedule: operation {index}: {rule}")
+            }
             TopFault::CannotRead(name) => write!(f, "cannot read {name}"),
             TopFault::NoMemory => write!(f, "out of memory"),
         }
@@ -218,11 +251,15 @@ impl TopFault<'_> {
             | TopFault::Period(..)
             | TopFault::CheckOverflow(_) => Status::Overflow,
             TopFault::Spent(_) => Status::Spent,
-            TopFault::LongCertificate => Status::TooLong,
+            TopFault::LongCertificate | TopFault::LongPlan | TopFault::LongOperations => {
+                Status::TooLong
+            }
             TopFault::CertificateLine(_)
             | TopFault::NegativePrice(_)
             | TopFault::UncoveredColumn(_)
-            | TopFault::PassedValue => Status::Refused,
+            | TopFault::PassedValue
+            | TopFault::PlanLine(_)
+            | TopFault::Breach(..) => Status::Refused,
             TopFault::CannotRead(_) => Status::ReadFault,
             TopFault::NoMemory => Status::NoMemory,
         }

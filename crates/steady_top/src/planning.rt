@@ -1,25 +1,30 @@
 //! What each command makes of its files.
 
-ghost use Rattle.std.specs.Prelude.{◌≡◌, ◌++◌, codes, decimal, length, string_bytes, MatchResult, IfOk, OnOk};
+ghost use Rattle.std.specs.Prelude.{◌≡◌, ◌≤◌, ◌++◌, codes, decimal, length, string_bytes, MatchResult, IfOk, OnOk};
 ghost use Rattle.std.specs.Fmt.{signed_decimal};
 ghost use Rattle.text_lines.specs.Lines.{line};
 ghost use Rattle.tasking_program.specs.Programme.{tasking_programme};
 ghost use Rattle.steady_top.specs.Faults.{refusal_of};
-ghost use Rattle.command_words.specs.Words.{plan, prices, check};
+ghost use Rattle.command_words.specs.Words.{plan, prices, check, audit};
+ghost use Rattle.steady_top.specs.Audits.{audit_text, IsAudit};
 ghost use Rattle.steady_top.specs.Outcomes.{upper_text};
 ghost use Rattle.steady_top.specs.Answers.{IsMade, IsCauseFor};
-ghost use Rattle.steady_top.specs.Planned.{IsPlatformRead, IsPlatformFault, IsCertificateRead, IsCertificateFault, IsProved, IsJudged};
+ghost use Rattle.steady_top.specs.Planned.{IsPlatformRead, IsPlatformFault, IsCertificateRead, IsCertificateFault, IsProved, IsJudged, IsPlanRead, IsPlanFault, IsScheduleOf, IsAuditFault};
 
 use crate::fault::TopFault;
 use dual_checker::{CertificateFault, Verdict, print_certificate, read_certificate};
 use linear_program::{Certificate, Lp};
 use listed::NoMemory;
 use outside_io::{Files, ReadEnd, read_whole};
-use plan_text::print_plan;
+use period_table::{UnrollFault, unroll};
+use plan_text::{PlanTextFault, print_plan, read_plan};
 use platform_file::{Kind, MOST_BYTES, Timed, read_platform, timed};
-use schedule_model::Series;
+use schedule_model::{Schedule, Series, check_schedule};
 use std::alloc::Global;
 use tasking_program::tasking_lp;
+
+/// The most bytes of a plan.
+const MOST_PLAN_BYTES: u64 = 4194304;
 
 /// The most bytes of a certificate.
 const MOST_CERTIFICATE_BYTES: u64 = 1048576;
@@ -171,4 +176,113 @@ pub fn check<'a, F: Files>(
     let lp = tasking_lp(alloc, &timed)?;
     let certificate = read_named_certificate(alloc, files, second, &timed, &lp)?;
     judge(alloc, &timed, &lp, &certificate)
+}
+
+/// The bytes of the plan in the named file.
+fn read_named_plan<'a, F: Files>(
+    alloc: Global,
+    files: &mut F,
+    name: &'a str,
+    timed: &Timed,
+    periods: u64,
+) -> Result<Vec<u8>, TopFault<'a>>
+    ensures { MatchResult result (λ bytes. IsPlanRead timed.now periods (F.state files.old) name.now (F.state files.new) bytes.items) (λ fault. IsPlanFault timed.now periods (F.state files.old) name.now (F.state files.new) (refusal_of fault)) }
+{
+    match read_whole(alloc, files, name, MOST_PLAN_BYTES) {
+        Ok(bytes) => Ok(bytes),
+        Err(ReadEnd::Failed) => Err(TopFault::CannotRead(name)),
+        Err(ReadEnd::Longer) => Err(TopFault::LongPlan),
+        Err(ReadEnd::NoMemory) => Err(TopFault::NoMemory),
+    }
+}
+
+/// Appends what an audit is of.
+fn push_periods(out: &mut String, periods: u64) -> Result<(), NoMemory>
+    ensures { OnOk result (string_bytes out.new ≡ string_bytes out.old ++ (codes "audit 1 periods " ++ decimal periods)) }
+{
+    write!(out, "audit 1 periods {periods}")?;
+    Ok(())
+}
+
+/// Appends the ticks of a schedule.
+fn push_ticks(out: &mut String, ticks: u128) -> Result<(), NoMemory>
+    ensures { OnOk result (string_bytes out.new ≡ string_bytes out.old ++ (codes " ticks " ++ decimal ticks)) }
+{
+    write!(out, " ticks {ticks}")?;
+    Ok(())
+}
+
+/// Appends how many tasks or messages are completed, and ends the line.
+fn push_count(out: &mut String, count: u64) -> Result<(), NoMemory>
+    ensures { OnOk result (string_bytes out.new ≡ string_bytes out.old ++ line (codes " completed " ++ decimal count)) }
+{
+    write!(out, " completed {count}\n")?;
+    Ok(())
+}
+
+/// The line of an audit.
+fn audit_line(alloc: Global, periods: u64, ticks: u128, count: u64) -> Result<String, NoMemory>
+    ensures { IfOk result (λ text. string_bytes text ≡ audit_text periods ticks count) }
+{
+    let mut out = String::new(alloc);
+    push_periods(&mut out, periods)?;
+    push_ticks(&mut out, ticks)?;
+    push_count(&mut out, count)?;
+    Ok(out)
+}
+
+/// The schedule of the plan in some bytes, with its series, over some periods.
+fn schedule_in<'a>(
+    alloc: Global,
+    timed: &Timed,
+    bytes: &[u8],
+    periods: u64,
+) -> Result<(Series, Schedule), TopFault<'a>>
+    requires { periods ≤ 1000000 }
+    ensures { MatchResult result (λ found. IsScheduleOf periods timed.now bytes.now found.0 found.1) (λ fault. IsAuditFault periods timed.now bytes.now (refusal_of fault)) }
+{
+    let (series, table) = match read_plan(alloc, timed, bytes) {
+        Ok(found) => found,
+        Err(PlanTextFault::Line(number)) => return Err(TopFault::PlanLine(number)),
+        Err(PlanTextFault::NoMemory) => return Err(TopFault::NoMemory),
+    };
+    match unroll(alloc, timed, series, &table, periods) {
+        Ok(schedule) => Ok((series, schedule)),
+        Err(UnrollFault::TooLong) => Err(TopFault::LongOperations),
+        Err(UnrollFault::NoMemory) => Err(TopFault::NoMemory),
+    }
+}
+
+/// What the audit of the plan in some bytes comes to.
+fn audit_of<'a>(
+    alloc: Global,
+    timed: &Timed,
+    bytes: &[u8],
+    periods: u64,
+) -> Result<String, TopFault<'a>>
+    requires { periods ≤ 1000000 }
+    ensures { MatchResult result (λ text. IsAudit periods timed.now bytes.now (string_bytes text)) (λ fault. IsAuditFault periods timed.now bytes.now (refusal_of fault)) }
+{
+    let (series, schedule) = schedule_in(alloc, timed, bytes, periods)?;
+    match check_schedule(timed, series, &schedule) {
+        Ok(count) => Ok(audit_line(alloc, periods, schedule.length, count)?),
+        Err(breach) => Err(TopFault::Breach(breach.index, breach.rule)),
+    }
+}
+
+/// The numbers of the plan in the second file, for the platform in the first, over some periods.
+pub fn audit<'a, F: Files>(
+    alloc: Global,
+    files: &mut F,
+    name: &'a str,
+    second: &'a str,
+    periods: u64,
+) -> Result<String, TopFault<'a>>
+    requires { periods ≤ 1000000 }
+    ensures { MatchResult result (λ text. IsMade (audit name.now second.now periods) (F.state files.old) (F.state files.new) (string_bytes text)) (λ fault. IsCauseFor (audit name.now second.now periods) (F.state files.old) (F.state files.new) (refusal_of fault)) }
+{
+    let timed = read_timed(alloc, files, name)?;
+    timed.known();
+    let bytes = read_named_plan(alloc, files, second, &timed, periods)?;
+    audit_of(alloc, &timed, &bytes, periods)
 }

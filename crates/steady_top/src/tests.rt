@@ -77,8 +77,8 @@ fn answer(
     Ok((status, String::from_utf8_lossy(alloc, out.written())?))
 }
 
-/// What the program ends with and writes, where `P` holds a platform and `C` a certificate.
-fn answer_to_check(
+/// What the program ends with and writes, where `P` holds a platform and `C` a certificate or a plan.
+fn answer_with_second(
     alloc: Global,
     line: &str,
     platform: &str,
@@ -113,7 +113,11 @@ fn refuses_words(rt: HostRuntime) -> Result<(), Fail> {
         "plan|P|--help",
         "prices",
         "prices|-P",
-        "audit|P|C",
+        "audit",
+        "audit|P",
+        "audit|P|-C",
+        "audit|P|C|--periods|1000001",
+        "audit|P|C|--series|tasking",
         "check|P",
         "check|P|-P",
         "check|P|P|P",
@@ -328,7 +332,7 @@ fn prints_prices(rt: HostRuntime) -> Result<(), Fail> {
 /// What the program answers to the certificate of two workers, where one text in it is another.
 fn checked(alloc: Global, old: &str, new: &str) -> Result<(Status, String), Fail> {
     let certificate = PRICES.replace(alloc, old, new)?;
-    answer_to_check(alloc, "check|P|C", TWO_WORKERS, certificate.as_bytes(), &[])
+    answer_with_second(alloc, "check|P|C", TWO_WORKERS, certificate.as_bytes(), &[])
 }
 
 #[test]
@@ -369,7 +373,7 @@ fn tells_that_a_check_overflows(rt: HostRuntime) -> Result<(), Fail> {
     let alloc = rt.alloc();
     let certificate =
         "prices 1 tasking\nrows 3\nscale 2\nbest 1\nprice 0 170141183460469231731687303715884105727\nprice 1 0\nprice 2 0\nend\n";
-    let (ended, out) = answer_to_check(
+    let (ended, out) = answer_with_second(
         alloc,
         "check|P|C",
         LONE_MASTER,
@@ -385,7 +389,7 @@ fn tells_that_a_check_overflows(rt: HostRuntime) -> Result<(), Fail> {
 fn refuses_a_long_certificate(rt: HostRuntime) -> Result<(), Fail> {
     let alloc = rt.alloc();
     let certificate = vec![in alloc; b'1'; 1048577]?;
-    let (ended, out) = answer_to_check(alloc, "check|P|C", TWO_WORKERS, &certificate, &[])?;
+    let (ended, out) = answer_with_second(alloc, "check|P|C", TWO_WORKERS, &certificate, &[])?;
     assert_eq!(rt; ended, Status::TooLong);
     assert_eq!(rt; out.as_str(), "error: too long: certificate\n");
     Ok(())
@@ -400,11 +404,100 @@ fn reads_the_platform_before_the_certificate(rt: HostRuntime) -> Result<(), Fail
         ("check|P|nofile", none, "error: cannot read nofile\n"),
         ("check|P|C", fourth, "error: cannot read C\n"),
     ] {
-        let (ended, out) = answer_to_check(alloc, line, TWO_WORKERS, b"", failing)?;
+        let (ended, out) = answer_with_second(alloc, line, TWO_WORKERS, b"", failing)?;
         assert_eq!(rt; ended, Status::ReadFault);
         assert_eq!(rt; out.as_str(), written);
     }
-    let (ended, out) = answer_to_check(alloc, "check|P|nofile", CUT_SHORT, b"", &[])?;
+    let (ended, out) = answer_with_second(alloc, "check|P|nofile", CUT_SHORT, b"", &[])?;
+    assert_eq!(rt; ended, Status::Platform);
+    assert_eq!(rt; out.as_str(), "error: platform: not TOML\n");
+    Ok(())
+}
+
+/// What the program answers to the plan of two workers, where one text in it is another.
+fn audited(alloc: Global, line: &str, old: &str, new: &str) -> Result<(Status, String), Fail> {
+    let plan = TWO_WORKERS_PLAN.replace(alloc, old, new)?;
+    answer_with_second(alloc, line, TWO_WORKERS, plan.as_bytes(), &[])
+}
+
+#[test]
+fn audits_plans(rt: HostRuntime) -> Result<(), Fail> {
+    let alloc = rt.alloc();
+    for (line, written) in [
+        (
+            "audit|P|C|--periods|2",
+            "audit 1 periods 2 ticks 6 completed 2\n",
+        ),
+        (
+            "audit|P|C|--periods|0",
+            "audit 1 periods 0 ticks 0 completed 0\n",
+        ),
+        ("audit|P|C", "audit 1 periods 4 ticks 12 completed 6\n"),
+    ] {
+        let (ended, out) = audited(alloc, line, "end", "end")?;
+        assert_eq!(rt; ended, Status::Done, "{line}");
+        assert_eq!(rt; out.as_str(), written);
+    }
+    Ok(())
+}
+
+#[test]
+fn refuses_plans(rt: HostRuntime) -> Result<(), Fail> {
+    let alloc = rt.alloc();
+    for (old, new, written) in [
+        (
+            "slot 1 0:1\nslot 2 1:1",
+            "slot 3 0:1 1:1",
+            "schedule: operation 1: send port",
+        ),
+        ("rate 2/3", "rate 3/4", "plan: line 6"),
+        ("rate 2/3", "rate 4/6", "plan: line 6"),
+        ("tasks 2", "tasks 02", "plan: line 4"),
+        ("route 1 1 m v", "route 1 1 v m", "plan: line 8"),
+        ("end\n", "end\n\n", "plan: line 12"),
+    ] {
+        let (ended, out) = audited(alloc, "audit|P|C|--periods|2", old, new)?;
+        assert_eq!(rt; ended, Status::Refused, "{written}");
+        let line = format!(in alloc; "error: {written}\n")?;
+        assert_eq!(rt; out.as_str(), line.as_str());
+    }
+    Ok(())
+}
+
+#[test]
+fn refuses_long_plans(rt: HostRuntime) -> Result<(), Fail> {
+    let alloc = rt.alloc();
+    let plan = vec![in alloc; b'1'; 4194305]?;
+    let (ended, out) = answer_with_second(alloc, "audit|P|C", TWO_WORKERS, &plan, &[])?;
+    assert_eq!(rt; ended, Status::TooLong);
+    assert_eq!(rt; out.as_str(), "error: too long: plan\n");
+    // Three sends and two computations a period are five million operations.
+    let (ended, out) = answer_with_second(
+        alloc,
+        "audit|P|C|--periods|1000000",
+        CHAIN,
+        CHAIN_PLAN.as_bytes(),
+        &[],
+    )?;
+    assert_eq!(rt; ended, Status::TooLong);
+    assert_eq!(rt; out.as_str(), "error: too long: operations\n");
+    Ok(())
+}
+
+#[test]
+fn reads_the_platform_before_the_plan(rt: HostRuntime) -> Result<(), Fail> {
+    let alloc = rt.alloc();
+    let (none, fourth) = (&[][..], &[3][..]);
+    for (line, failing, written) in [
+        ("audit|nofile|C", none, "error: cannot read nofile\n"),
+        ("audit|P|nofile", none, "error: cannot read nofile\n"),
+        ("audit|P|C", fourth, "error: cannot read C\n"),
+    ] {
+        let (ended, out) = answer_with_second(alloc, line, TWO_WORKERS, b"", failing)?;
+        assert_eq!(rt; ended, Status::ReadFault);
+        assert_eq!(rt; out.as_str(), written);
+    }
+    let (ended, out) = answer_with_second(alloc, "audit|P|nofile", CUT_SHORT, b"", &[])?;
     assert_eq!(rt; ended, Status::Platform);
     assert_eq!(rt; out.as_str(), "error: platform: not TOML\n");
     Ok(())

@@ -4,11 +4,12 @@ ghost use Rattle.std.specs.Prelude.{◌≡◌, ◌⊎◌, ℕ, List, None, Optio
 ghost use Rattle.outside_io.specs.Faults.{Rose};
 ghost use Rattle.steady_top.specs.Faults.{refusal_of};
 ghost use Rattle.steady_top.specs.Refusals.{Refusal, status_of, usage, cannot_read, no_memory, error_line};
-ghost use Rattle.steady_top.specs.Outcomes.{command_of, outcome_of, refuses, IsText};
+ghost use Rattle.steady_top.specs.Outcomes.{outcome_of, IsText, IsRefusal};
+ghost use Rattle.command_words.specs.Words.{command_of};
 ghost use Rattle.steady_top.specs.Answers.{AreToldAs, IsAnswer, IsCause, IsPrinted, IsRefused, IsRefusedWith, IsCutShort, IsResponse, IsOneOf, Ends};
 
 use crate::fault::TopFault;
-use crate::planning::{check, plan, prices};
+use crate::planning::{audit, check, plan, prices};
 use crate::status::Status;
 use command_words::{Command, WordsFault, command_in};
 use listed::NoMemory;
@@ -45,7 +46,14 @@ fn answer<'a, F: Files>(
                 series,
             },
         ) => check(alloc, files, file, certificate, series),
-        Ok(Command::Audit { .. }) | Err(WordsFault::Usage) => Err(TopFault::Usage),
+        Ok(
+            Command::Audit {
+                file,
+                plan,
+                periods,
+            },
+        ) => audit(alloc, files, file, plan, periods),
+        Err(WordsFault::Usage) => Err(TopFault::Usage),
         Err(WordsFault::NoMemory) => Err(TopFault::NoMemory),
     }
 }
@@ -83,7 +91,8 @@ fn respond<F: Files, S: Sink>(alloc: Global, words: &[String], files: &mut F, ou
 /// The program: reads what the words name, and writes a text or one error line.
 ///
 /// `plan FILE` prints the plan of the platform in the file, `prices FILE` the certificate of its best rate, both found with at most as
-/// many pivots as `--pivots` says, and `check FILE CERTIFICATE` the rate that the certificate proves for it. All of a text is made before its first byte is written.
+/// many pivots as `--pivots` says. `check FILE CERTIFICATE` prints the rate that the certificate proves for it, and `audit FILE PLAN` what
+/// the plan completes on it over as many periods as `--periods` says. All of a text is made before its first byte is written.
 pub fn steady<F: Files, S: Sink>(
     alloc: Global,
     words: &[String],
@@ -91,7 +100,8 @@ pub fn steady<F: Files, S: Sink>(
     out: &mut S,
 ) -> Status
     // Done only where the definitions print a text for the words and the files, just that text was written, and it is what its command
-    // claims: the text of a best table, the certificate of the best rate, or a rate that a certificate proves; no schedule exceeds it.
+    // claims: the text of a best table, the certificate of the best rate, a rate that a certificate proves, or what a plan completes by a
+    // schedule that keeps every rule.
     ensures done { result ≡ Status.Done → IsPrinted (map string_bytes words.now) (F.state files.old) (F.state files.new) (S.state out.old) (S.state out.new) }
 
     // Each refusal comes with its cause, and its one error line was written.
@@ -109,7 +119,7 @@ pub fn steady<F: Files, S: Sink>(
     ensures complete { (holds : List ℕ → Option (List ℕ)) → AreToldAs (F.state files.old) holds → IsText (outcome_of (map string_bytes words.now) holds)
         → ¬ (Rose (F.state files.old).faults (F.state files.new).faults) → ¬ (Rose (S.state out.old).faults (S.state out.new).faults)
         → (result ≡ Status.Done) ⊎ (result ≡ Status.NoMemory) }
-    ensures exact { (holds : List ℕ → Option (List ℕ)) (refusal : Refusal) → AreToldAs (F.state files.old) holds → outcome_of (map string_bytes words.now) holds ≡ refuses refusal
+    ensures exact { (holds : List ℕ → Option (List ℕ)) (refusal : Refusal) → AreToldAs (F.state files.old) holds → IsRefusal (outcome_of (map string_bytes words.now) holds) refusal
         → ¬ (Rose (F.state files.old).faults (F.state files.new).faults) → ¬ (Rose (S.state out.old).faults (S.state out.new).faults)
         → (result ≡ status_of refusal) ⊎ (result ≡ Status.NoMemory) }
     // Words that are no command are refused, whatever the files are.

@@ -12,4 +12,4 @@ returns c =
     let first : string_bytes c.push_best.new.out ≡ string_bytes c.new-out.result ++ (codes "upper " ++ signed_decimal certificate.best) = search rules in
     let second : string_bytes c.push_scale.new.out ≡ string_bytes c.push_best.new.out ++ (codes " tasks per " ++ signed_decimal certificate.scale) = search rules in
     let third : string_bytes c.push_unit.new.out ≡ string_bytes c.push_scale.new.out ++ line (codes " ticks, unit " ++ decimal t.unit) = search rules in
-    line_in_parts t certificate start first second third
+    line_in_parts (codes "upper ") (signed_decimal certificate.best) (codes " tasks per ") (signed_decimal certificate.scale) (codes " ticks, unit ") (decimal t.unit) start first second third

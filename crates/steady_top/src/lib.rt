@@ -1,0 +1,13 @@
+//! Steady's top call: from the words and the bytes of the files that they name to one text or one error line.
+#![tactic(auto)]
+
+mod fault;
+mod planning;
+mod status;
+#[cfg(test)]
+mod tests;
+mod top;
+
+pub use fault::TopFault;
+pub use status::Status;
+pub use top::{refuse, steady};
