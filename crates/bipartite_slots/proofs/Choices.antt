@@ -2,17 +2,12 @@
 use Rattle.std.proofs.Common.{◌≡◌, ℕ, zero, suc, ◌+◌, ◌<◌, ◌≤◌, ◌≢◌, ◌⊎◌, inl, inr, Bool, true, false, Option, Some, None, List, [], ◌∷◌, ◌++◌, length, get_or, set, arith, refl, sym, ◌∙◌, ap, subst}
 use Rattle.std.proofs.lemmas.Bool.{cases_eq, cases_lt, false≢true}
 use Rattle.std.proofs.lemmas.List.{get_or-set_same, get_or-set_other, get_or_append_left, get_or_push, length_push, length-set}
+use Rattle.std.proofs.lemmas.Option.{none-some, same_Some}
 use Rattle.bipartite_slots.specs.Searches.{holder, is_seen, IsMatching, IsPlaced, IsUnplaced, Places, HeldInside, Searched}
 use Rattle.bipartite_slots.specs.Choices.{IsComplete, Agrees, Excludes, IsLeastAt, KeepsEarlier, IsFirst}
 use Rattle.bipartite_slots.proofs.Growing.{matching_put, put_out, holder_here, holder_elsewhere, held_inside}
 use Rattle.bipartite_slots.proofs.Blocked.{never_blocked}
 use Rattle.bipartite_slots.proofs.Marks.{marks, marked, marks_full}
-
-some_same : (a b : ℕ) → Some a ≡ Some b → a ≡ b
-some_same a b e = cc
-
-some_none : (a : ℕ) → Some a ≡ None → ⊥
-some_none a e = cc
 
 -- the matching without the column of one row
 module _ (cells : ℕ → ℕ → ℕ) (holders : List (Option ℕ)) (row own : ℕ) where
@@ -26,7 +21,7 @@ module _ (cells : ℕ → ℕ → ℕ) (holders : List (Option ℕ)) (row own : 
   freed_held l i j e = go (cases_eq j own)
     where
       go : (j ≡ own) ⊎ (j ≢ own) → (j ≢ own) × (holder holders j ≡ Some i)
-      go (inl a) = absurd (some_none i (sym e ∙ ap (holder (set holders own None)) a ∙ freed_here l))
+      go (inl a) = absurd (none-some i (sym (ap (holder (set holders own None)) a ∙ freed_here l) ∙ e))
       go (inr a) = (a, sym (freed_elsewhere j a) ∙ e)
 
   pub freed_matching : own < length holders → IsMatching cells holders → IsMatching cells (set holders own None)
@@ -48,7 +43,7 @@ complete_again size cells holders new row own seen complete e p = record {
   where
     full : (i : ℕ) → IsPlaced holders i → (i ≡ row) ⊎ (i ≢ row) → IsPlaced new i
     full i (j, f) (inl a) = subst (IsPlaced new) (sym a) p.placed
-    full i (j, f) (inr a) = p.kept i (j, freed_elsewhere cells holders row own j (λ b. a (some_same i row (sym f ∙ ap (holder holders) b ∙ e))) ∙ f)
+    full i (j, f) (inr a) = p.kept i (j, freed_elsewhere cells holders row own j (λ b. a (same_Some i row (sym f ∙ ap (holder holders) b ∙ e))) ∙ f)
 
 -- a column that an earlier row holds is not for this row
 pub excluded_earlier : (size : ℕ) (cells : ℕ → ℕ → ℕ) (holders : List (Option ℕ)) (row column earlier : ℕ) → row < size → IsMatching cells holders →
@@ -117,7 +112,7 @@ first_when_settled size cells holders as_many complete least =
           one_a_row = e;
           inside = λ row l. subst (λ n. get_or columns row 0 < n) as_many (held_inside holders row (get_or columns row 0) (held row l));
           positive = λ row l. complete.matching.positive row (get_or columns row 0) (held row l);
-          differ = λ row other l k f. some_same row other (sym (held row l) ∙ ap (holder holders) f ∙ held other k);
+          differ = λ row other l k f. same_Some row other (sym (held row l) ∙ ap (holder holders) f ∙ held other k);
         };
         first = λ other perfect (row, l, same, less).
             over _ _ less (least row l other perfect (λ earlier k. ap (holder holders) (same earlier k) ∙ held earlier (omega arith)) (get_or columns row 0) (held row l));
@@ -218,7 +213,7 @@ module _ (size : ℕ) (cells : ℕ → ℕ → ℕ) (holders : List (Option ℕ)
             j,
             f,
             holder_elsewhere cells (set holders own None) row column j a
-                ∙ freed_elsewhere cells holders row own j (λ b. other_row h.0 h.1 (some_same h.0 row (sym h.2 ∙ ap (holder holders) b ∙ t.own_held)))
+                ∙ freed_elsewhere cells holders row own j (λ b. other_row h.0 h.1 (same_Some h.0 row (sym h.2 ∙ ap (holder holders) b ∙ t.own_held)))
                 ∙ h.2
                 ∙ ap Some (sym mine),
           )

@@ -85,13 +85,13 @@ pub lanes_bounded : (t : TimedView) (series : Series) (table : Table) → Fits t
 lanes_bounded t series table fits =
     all_carry (λ n. n ≤ 2 ^ 100) table.routes (All-weaker (IsRoute t series) (λ route. route.count ≤ 2 ^ 100) (λ route r. r.bounded) table.routes fits.routes)
 
--- a period lasts
-pub some_period : (t : TimedView) (series : Series) (table : Table) → Fits t series table → 1 ≤ table.period
-some_period t series table fits = rw fits.period (lasts table.slots fits.some_slot fits.slots)
+-- slots last, and so does a period
+pub slots_last : (lanes : List LaneAt) (slots : List Slot) → 1 ≤ length slots → All (IsSlot lanes) slots → 1 ≤ sum_by (λ slot. slot.duration) slots
+slots_last lanes [] some each = absurd (omega arith)
+slots_last lanes (slot ∷ slots) some each = more _ _ _ (sum_by-cons (λ (s : Slot). s.duration) slot slots) (All-head (IsSlot lanes) slot slots each).some
   where
     more : (a b n : ℕ) → n ≡ a + b → 1 ≤ a → 1 ≤ n
     more a b n e l = omega arith
 
-    lasts : (slots : List Slot) → 1 ≤ length slots → All (IsSlot (lanes_of table.routes)) slots → 1 ≤ sum_by (λ slot. slot.duration) slots
-    lasts [] some each = absurd (omega arith)
-    lasts (slot ∷ slots) some each = more _ _ _ (sum_by-cons (λ (s : Slot). s.duration) slot slots) (All-head (IsSlot (lanes_of table.routes)) slot slots each).some
+pub some_period : (t : TimedView) (series : Series) (table : Table) → Fits t series table → 1 ≤ table.period
+some_period t series table fits = rw fits.period (slots_last (lanes_of table.routes) table.slots fits.some_slot fits.slots)

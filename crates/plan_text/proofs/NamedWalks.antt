@@ -1,5 +1,5 @@
 -- Names tell nodes, and the names on a walk tell its links.
-use Rattle.std.proofs.Common.{◌≡◌, ℕ, suc, ◌+◌, ◌<◌, Bool, true, false, ◌&&◌, nat_eq, bytes_eq, List, [], ◌∷◌, length, map, drop, get_or, Bor, refl, sym, ap, ◌∙◌, subst, arith, inl, inr}
+use Rattle.std.proofs.Common.{◌≡◌, ℕ, suc, ◌+◌, ◌<◌, Bool, true, false, ◌&&◌, nat_eq, bytes_eq, List, [], ◌∷◌, length, map, drop, get_or, Bor, refl, sym, ap, ◌∙◌, subst, arith, inl, inr, ap₂}
 use Rattle.std.proofs.Math.Seq.{drop-cons}
 use Rattle.std.proofs.lemmas.Bool.{cases_order}
 use Rattle.std.proofs.lemmas.Bool.Decides.{nat_tests}
@@ -63,10 +63,7 @@ module _ (t : TimedView) (timed : IsTimed t) where
   walk_unique at (name ∷ names) (i ∷ links) (j ∷ others) end other w v =
       let same : i ≡ j = hop_unique at name i j w.0 v.0 in
       let more = walk_unique (receiver_of t i) names links others end other w.1 (subst (λ k. IsNamedWalk t (receiver_of t k) names others other) (sym same) v.1) in
-      (both same more.0, more.1)
-    where
-      both : {x y : ℕ} {xs ys : List ℕ} → x ≡ y → xs ≡ ys → x ∷ xs ≡ y ∷ ys
-      both e f = cc
+      (ap₂ (λ x xs. x ∷ xs) same more.0, more.1)
 
   -- the kind is told by the end
   pub kind_unique : (series : Series) (end a b : ℕ) → IsKind t series end a → IsKind t series end b → a ≡ b
@@ -100,10 +97,7 @@ named_walk t at [] (link ∷ links) end w = absurd w
 named_walk t at (name ∷ names) [] end w = absurd w
 named_walk t at (name ∷ names) (link ∷ links) end w =
     let rest = named_walk t (receiver_of t link) names links end w.1 in
-    (w.0.leaves, both (ap (name_of t) rest.0 ∙ w.0.enters) rest.1)
-  where
-    both : {x y : List ℕ} {xs ys : List (List ℕ)} → x ≡ y → xs ≡ ys → x ∷ xs ≡ y ∷ ys
-    both e f = cc
+    (w.0.leaves, ap₂ (λ x xs. x ∷ xs) (ap (name_of t) rest.0 ∙ w.0.enters) rest.1)
 
 -- a walk over the names from one on goes over the first of them, and on
 pub from_next : (t : TimedView) (at link : ℕ) (names : List (Bor (List ℕ))) (i : ℕ) (d : Bor (List ℕ)) → i < length names → IsHop t at (get_or names i d).now link → (rest : List ℕ) (end : ℕ) →

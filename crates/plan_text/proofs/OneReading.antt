@@ -1,7 +1,8 @@
 -- A text is read in one way.
-use Rattle.std.proofs.Common.{◌≡◌, ℕ, zero, suc, ◌+◌, ◌<◌, ◌≤◌, ◌^◌, List, [], ◌∷◌, ◌++◌, length, get_or, Some, codes, refl, sym, ap, ◌∙◌, subst, arith, inl, inr}
+use Rattle.std.proofs.Common.{◌≡◌, ℕ, zero, suc, ◌+◌, ◌<◌, ◌≤◌, ◌^◌, List, [], ◌∷◌, ◌++◌, length, get_or, codes, refl, sym, ap, ◌∙◌, subst, arith, inl, inr}
 use Rattle.std.proofs.lemmas.Bool.{cases_order, cases_lt}
 use Rattle.std.proofs.lemmas.List.{length-append}
+use Rattle.std.proofs.lemmas.Option.{same_Some}
 use Rattle.platform_file.specs.Ticks.{TimedView, IsTimed}
 use Rattle.schedule_model.specs.declared.schedule.Series.{Series}
 use Rattle.schedule_model.specs.declared.schedule.Series.TheVariants.{Tasking, Scatter}
@@ -114,15 +115,12 @@ module _ (t : TimedView) (timed : IsTimed t) where
   read_unique zero bytes place other left rest short first second = (first.0 ∙ sym second.0, first.1 ∙ sym second.1)
   read_unique (suc lines) bytes place other left rest short first second =
       let same = read_unique lines bytes first.last second.last first.rest second.rest short first.read second.read in
-      let both : (first.step.text, left) ≡ (second.step.text, rest) = some_same (sym first.step.split ∙ ap first_line same.1 ∙ second.step.split) in
+      let both : (first.step.text, left) ≡ (second.step.text, rest) = same_Some _ _ (sym first.step.split ∙ ap first_line same.1 ∙ second.step.split) in
       let leads : LeadsTo t first.last first.step.text other =
       subst (λ p. LeadsTo t p first.step.text other) (sym same.0) (subst (λ text. LeadsTo t second.last text other) (sym (ap (λ (p : List ℕ × List ℕ). p.0) both)) second.step.leads) in (
         leads_unique first.last place other first.step.text (read_small lines bytes first.last first.rest short first.read) first.step.leads leads,
         ap (λ (p : List ℕ × List ℕ). p.1) both,
       )
-    where
-      some_same : {A : Type 0} {x y : A} → Some x ≡ Some y → x ≡ y
-      some_same e = cc
 
   -- what comes before a later place leads on
   pub record LeadsOn (lines : ℕ) (bytes : List ℕ) : Type 0 where

@@ -1,13 +1,12 @@
 -- The text of a table that fits is read, to its end.
-use Rattle.std.proofs.Common.{◌≡◌, ◌≢◌, ℕ, zero, suc, ◌+◌, ◌*◌, ◌%◌, ◌<◌, ◌≤◌, ◌^◌, All, List, [], ◌∷◌, ◌++◌, length, codes, decimal, refl, sym, ap, subst, arith, inl, inr, sum_by}
+use Rattle.std.proofs.Common.{◌≡◌, ◌≢◌, ℕ, suc, ◌+◌, ◌*◌, ◌<◌, ◌≤◌, ◌^◌, All, List, [], ◌∷◌, ◌++◌, length, codes, decimal, refl, sym, ap, subst, arith, inl, inr, sum_by}
 use Rattle.std.proofs.lemmas.List.{append_assoc, append-nil, length-append}
 use Rattle.std.proofs.lemmas.List.Elements.{All-nil, All-cons, All-append, All-head, All-tail}
 use Rattle.std.specs.Int.{IsGcd}
-use Rattle.std.proofs.Math.Nat.{mod-lt}
-use Rattle.std.proofs.lemmas.Nat.Gcd.{IsGcd-from_zero, IsGcd-from_mod}
 use Rattle.std.proofs.lemmas.List.Sums.{sum_by-cons}
 use Rattle.ratio_core.specs.Fraction.{Fraction, IsReduced, gcd_of, reduced}
-use Rattle.ratio_core.proofs.GcdLemmas.{gcd_of_is, gcd_positive, quotients_are_coprime, quotient_positive}
+use Rattle.ratio_core.proofs.GcdLemmas.{gcd_positive, quotients_are_coprime, quotient_positive}
+use Rattle.ratio_core.proofs.Multiples.{searched_is_gcd}
 use Rattle.platform_file.specs.Ticks.{TimedView, IsTimed}
 use Rattle.schedule_model.specs.declared.schedule.Series.{Series}
 use Rattle.schedule_model.specs.declared.schedule.Series.TheVariants.{Tasking, Scatter}
@@ -17,7 +16,7 @@ use Rattle.period_table.specs.declared.table.Slot.{Slot}
 use Rattle.period_table.specs.declared.table.Piece.{Piece}
 use Rattle.period_table.specs.Lanes.{LaneAt, lanes_of}
 use Rattle.period_table.specs.Tables.{IsRoute, IsPiece, IsSlot, HasTasks, Fits}
-use Rattle.period_table.proofs.FittingTables.{end_exists}
+use Rattle.period_table.proofs.FittingTables.{end_exists, some_period}
 use Rattle.text_lines.specs.Lines.{line, IsOneLine}
 use Rattle.text_lines.proofs.FirstLines.{line_first}
 use Rattle.text_lines.proofs.Words.{lacks_by}
@@ -56,19 +55,9 @@ next_rate rate rest lowest num den =
     (All-cons (λ b. b ≢ 10) 47 (decimal rate.den) (λ e. omega (arith, e)) (number_lacks 10 (inr refl) rate.den (omega (arith, den))))))
     (record { part = ratio_text rate; is_line = refl; numbers = record { is_text = refl; first_bounded = num; second_bounded = den }; lowest = lowest })
 
--- every two numbers have a greatest common divisor
-gcd_exists : (fuel a b : ℕ) → b ≤ fuel → (g : ℕ) × IsGcd a b g
-gcd_exists zero a b l = (a, IsGcd-from_zero a b (omega (arith, l)))
-gcd_exists (suc fuel) a zero l = (a, IsGcd-from_zero a 0 refl)
-gcd_exists (suc fuel) a (suc b) l =
-    let less : a % suc b < suc b = mod-lt a (omega arith) in
-    let rest = gcd_exists fuel (suc b) (a % suc b) (omega (arith, less, l)) in
-    (rest.0, IsGcd-from_mod a (suc b) rest.0 rest.1)
-
 reduced_lowest : (num den : ℕ) → 1 ≤ den → IsReduced (reduced num den)
 reduced_lowest num den some =
-    let found = gcd_exists den num den (omega arith) in
-    let is : IsGcd num den (gcd_of num den) = subst (IsGcd num den) (gcd_of_is num den found.0 found.1) found.1 in
+    let is : IsGcd num den (gcd_of num den) = searched_is_gcd num den in
     record { some_den = quotient_positive den (gcd_of num den) some is.1; lowest = quotients_are_coprime num den (gcd_of num den) (gcd_positive num den (gcd_of num den) some is) is }
 
 -- what holds at one end holds at the same end
@@ -173,7 +162,7 @@ module _ (t : TimedView) (timed : IsTimed t) where
       let fourth = after_tasks t bytes r3 r4 series table.period table.tasks third (next_number (codes "tasks ") table.tasks r4 (lacks_by 10 (codes "tasks ") refl) fits.few_tasks) in
       let fifth = after_depth t bytes r4 r5 series table.period table.tasks table.depth fourth (next_number (codes "depth ") table.depth r5 (lacks_by 10 (codes "depth ") refl) deep) in
       let sixth = after_rate t bytes r5 r6 series table.period table.tasks table.depth rate fifth
-      (next_rate rate r6 (reduced_lowest (table.tasks * t.unit) table.period (some_period fits.some_slot fits.slots fits.period)) fits.rate_num fits.rate_den) in
+      (next_rate rate r6 (reduced_lowest (table.tasks * t.unit) table.period (some_period t series table fits)) fits.rate_num fits.rate_den) in
       let seventh = and_more t (length table.routes) 6 at_header bytes (at_row head [] []) r6 (at_row head table.routes []) r7 sixth (routes_read head [] table.routes r7 (omega (arith, few)) fits.routes) in
       let eighth = and_more t (length table.slots) (length table.routes + 6) at_header bytes (at_row head table.routes []) r7 (at_row head table.routes table.slots) r8 seventh
       (slots_read head table.routes [] table.slots r8 (omega (arith, fits.few_slots)) fits.slots (each_within table.slots (2 ^ 100) (omega (arith, fits.period, fits.short_period))) small) in
@@ -184,15 +173,6 @@ module _ (t : TimedView) (timed : IsTimed t) where
             (step_end t r8 [] head table.routes table.slots (end_behind table.slots fits.some_slot) at_end);
       }
     where
-      some_period : 1 ≤ length table.slots → All (IsSlot (lanes_of table.routes)) table.slots → table.period ≡ sum_by (λ slot. slot.duration) table.slots → 1 ≤ table.period
-      some_period some all is = rw is (some_sum table.slots some all)
-        where
-          some_sum : (slots : List Slot) → 1 ≤ length slots → All (IsSlot (lanes_of table.routes)) slots → 1 ≤ sum_by (λ slot. slot.duration) slots
-          some_sum [] some all = absurd (omega (arith, some))
-          some_sum (slot ∷ slots) some all =
-              let sum : sum_by (λ (slot : Slot). slot.duration) (slot ∷ slots) ≡ slot.duration + sum_by (λ (slot : Slot). slot.duration) slots = sum_by-cons (λ (slot : Slot). slot.duration) slot slots in
-              omega (arith, sum, (All-head (IsSlot (lanes_of table.routes)) slot slots all).some)
-
       each_within : (slots : List Slot) (most : ℕ) → sum_by (λ slot. slot.duration) slots ≤ most → All (λ slot. slot.duration ≤ most) slots
       each_within [] most within = All-nil (λ slot. slot.duration ≤ most)
       each_within (slot ∷ slots) most within =

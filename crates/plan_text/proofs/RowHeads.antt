@@ -1,5 +1,5 @@
 -- The first words of a route's or a slot's line, as they are read.
-use Rattle.std.proofs.Common.{◌≡◌, ◌≢◌, ℕ, ◌≤◌, ◌^◌, Bor, List, [], ◌∷◌, map, Some, None, codes, decimal, sym, ap, ◌∙◌, subst, arith}
+use Rattle.std.proofs.Common.{◌≡◌, ◌≢◌, ℕ, ◌≤◌, ◌^◌, Bor, List, [], ◌∷◌, map, Some, None, codes, decimal, sym, ap, ◌∙◌, subst, arith, ap₂}
 use Rattle.platform_file.specs.Ticks.{TimedView}
 use Rattle.text_lines.specs.Numbers.{IsReadAsPrinted, natural_of}
 use Rattle.plan_text.specs.Walks.{IsNamed}
@@ -36,10 +36,7 @@ module _ (word : List ℕ) (words : List (List ℕ)) where
       pub numbered_found : first ≡ word → IsReadAsPrinted (2 ^ 107) → (n : ℕ) → natural_of (2 ^ 107) second ≡ Some n → IsNumbered word words n behind
       numbered_found same read n is =
           let only = read.only_naturals second n is in
-          record { are_words = begins ∙ both same (goes_on ∙ ap (λ w. w ∷ behind) only.1); bounded = only.0 }
-        where
-          both : {x y : List ℕ} {xs ys : List (List ℕ)} → x ≡ y → xs ≡ ys → x ∷ xs ≡ y ∷ ys
-          both e f = cc
+          record { are_words = begins ∙ ap₂ (λ x xs. x ∷ xs) same (goes_on ∙ ap (λ w. w ∷ behind) only.1); bounded = only.0 }
 
 module _ (t : TimedView) (number : ℕ) (few : number ≤ 2 ^ 107) (words : List (List ℕ)) where
   pub head_unnumbered : ((n : ℕ) (others : List (List ℕ)) → IsNumbered (codes "route") words n others → ⊥) → (count start : ℕ) (rest : List (List ℕ)) → IsRouteHead t number words count start rest → ⊥
@@ -73,13 +70,7 @@ module _ (t : TimedView) (number : ℕ) (few : number ≤ 2 ^ 107) (words : List
             let only = read.only_naturals word count counted in
             record {
               name = name;
-              are_words = is.are_words ∙ all same (goes_on ∙ both only.1 begins);
+              are_words = is.are_words ∙ ap₂ (λ n behind. codes "route" ∷ (decimal n ∷ behind)) same (goes_on ∙ ap₂ (λ x xs. x ∷ xs) only.1 begins);
               bounded = only.0;
               named = named;
             }
-          where
-            both : {x y : List ℕ} {xs ys : List (List ℕ)} → x ≡ y → xs ≡ ys → x ∷ xs ≡ y ∷ ys
-            both e f = cc
-
-            all : {m n : ℕ} {xs ys : List (List ℕ)} → m ≡ n → xs ≡ ys → codes "route" ∷ (decimal m ∷ xs) ≡ codes "route" ∷ (decimal n ∷ ys)
-            all {m} {n} {xs} {ys} e f = ap (λ k. codes "route" ∷ (decimal k ∷ xs)) e ∙ ap (λ zs. codes "route" ∷ (decimal n ∷ zs)) f

@@ -1,5 +1,5 @@
 -- What the readers of routes and slots find in the words of a line.
-use Rattle.std.proofs.Common.{◌≡◌, ℕ, ◌-◌, ◌<◌, ◌≤◌, ◌^◌, All, List, [], ◌∷◌, length, map, codes, decimal, refl, sym, ap, ◌∙◌, subst, arith, inr}
+use Rattle.std.proofs.Common.{◌≡◌, ℕ, ◌-◌, ◌<◌, ◌≤◌, ◌^◌, All, List, [], ◌∷◌, length, map, codes, decimal, refl, sym, ap, ◌∙◌, subst, arith, inr, ap₂}
 use Rattle.std.specs.List.{join_with_byte}
 use Rattle.std.proofs.lemmas.List.Elements.{All-nil, All-cons, All-head, All-tail}
 use Rattle.platform_file.specs.Ticks.{TimedView, IsTimed}
@@ -128,14 +128,11 @@ module _ (t : TimedView) (timed : IsTimed t) where
           AreRouteWords t series number words route
       route_read start others route head walk is_route =
           let ends = named_walk t start others route.links route.end walk in
-          let names : head.name ∷ others ≡ name_of t (first_node t route.links route.end) ∷ names_behind t route.links route.end = both (sym head.named.named ∙ ap (name_of t) (sym ends.0)) (sym ends.1) in
+          let names : head.name ∷ others ≡ name_of t (first_node t route.links route.end) ∷ names_behind t route.links route.end = ap₂ (λ x xs. x ∷ xs) (sym head.named.named ∙ ap (name_of t) (sym ends.0)) (sym ends.1) in
           record {
             are_words = head.are_words ∙ ap (λ ns. codes "route" ∷ (decimal number ∷ (decimal route.count ∷ ns))) (names ∙ sym (names_on t route.links route.end));
             is_route = is_route;
           }
-        where
-          both : {x y : List ℕ} {xs ys : List (List ℕ)} → x ≡ y → xs ≡ ys → x ∷ xs ≡ y ∷ ys
-          both e f = cc
 
     pub route_unique : (text : List ℕ) (first second : Route) → IsRouteLine t series number text first → IsRouteLine t series number text second → first ≡ second
     route_unique text first second line other =
@@ -154,10 +151,7 @@ pub pieces_words : (words : List (List ℕ)) (pieces : List Piece) → ArePieceW
 pieces_words [] [] are = refl
 pieces_words [] (piece ∷ pieces) are = absurd are
 pieces_words (word ∷ words) [] are = absurd are
-pieces_words (word ∷ words) (piece ∷ pieces) are = both are.0.is_text (pieces_words words pieces are.1)
-  where
-    both : {x y : List ℕ} {xs ys : List (List ℕ)} → x ≡ y → xs ≡ ys → x ∷ xs ≡ y ∷ ys
-    both e f = cc
+pieces_words (word ∷ words) (piece ∷ pieces) are = ap₂ (λ x xs. x ∷ xs) are.0.is_text (pieces_words words pieces are.1)
 
 pieces_told : (words : List (List ℕ)) (pieces others : List Piece) → ArePieceWords words pieces → ArePieceWords words others → pieces ≡ others
 pieces_told [] [] [] are also = refl
@@ -167,16 +161,10 @@ pieces_told (word ∷ words) [] others are also = absurd are
 pieces_told (word ∷ words) (p ∷ pieces) [] are also = absurd also
 pieces_told (word ∷ words) (p ∷ pieces) (q ∷ others) are also =
     let same = pair_unique 58 (2 ^ 32 - 1) (2 ^ 100) (inr (omega arith)) (omega arith) (omega arith) word p.lane p.count q.lane q.count are.0 also.0 in
-    both (of same.0 same.1) (pieces_told words pieces others are.1 also.1)
+    ap₂ (λ x xs. x ∷ xs) (ap₂ made same.0 same.1) (pieces_told words pieces others are.1 also.1)
   where
     made : ℕ → ℕ → Piece
     made lane count = record { lane = lane; count = count }
-
-    of : {a b c d : ℕ} → a ≡ b → c ≡ d → made a c ≡ made b d
-    of e f = cc
-
-    both : {x y : Piece} {xs ys : List Piece} → x ≡ y → xs ≡ ys → x ∷ xs ≡ y ∷ ys
-    both e f = cc
 
 -- the pieces of a slot have such words
 are_words : (lanes : List LaneAt) (pieces : List Piece) → All (IsPiece lanes) pieces → All (λ piece. piece.lane < 2 ^ 32) pieces → ArePieceWords (map piece_text pieces) pieces

@@ -1,8 +1,6 @@
 -- The first pass over a whole plan, and what it finds.
-use Rattle.std.proofs.Common.{◌≡◌, ◌≢◌, ℕ, suc, ◌+◌, ◌*◌, ◌<◌, ◌≤◌, ◌^◌, All, List, [], ◌∷◌, ◌++◌, length, codes, decimal, refl, sym, ap, ◌∙◌, subst, arith, inl, inr, sum_by}
+use Rattle.std.proofs.Common.{◌≡◌, ◌≢◌, ℕ, suc, ◌+◌, ◌*◌, ◌<◌, ◌≤◌, ◌^◌, List, [], ◌∷◌, ◌++◌, length, codes, decimal, refl, sym, ap, ◌∙◌, subst, arith, inl, inr}
 use Rattle.std.proofs.lemmas.List.{append_assoc, append-nil}
-use Rattle.std.proofs.lemmas.List.Elements.{All-head}
-use Rattle.std.proofs.lemmas.List.Sums.{sum_by-cons}
 use Rattle.ratio_core.specs.Fraction.{reduced}
 use Rattle.platform_file.specs.Ticks.{TimedView}
 use Rattle.schedule_model.specs.declared.schedule.Series.{Series}
@@ -11,7 +9,7 @@ use Rattle.flow_routes.specs.declared.flow.Route.{Route}
 use Rattle.period_table.specs.declared.table.Table.{Table}
 use Rattle.period_table.specs.declared.table.Slot.{Slot}
 use Rattle.period_table.specs.Lanes.{lanes_of}
-use Rattle.period_table.specs.Tables.{IsSlot, HasTasks, longest}
+use Rattle.period_table.specs.Tables.{HasTasks, longest}
 use Rattle.text_lines.specs.Lines.{line}
 use Rattle.plan_text.specs.Texts.{header_text, ratio_text, routes_text, slots_text}
 use Rattle.plan_text.specs.Reading.{HasNoNext, IsNext, IsRouteLine, IsSlotLine, IsEndLine, HeadView, AreRead, IsReadThrough, IsFaultAt, table_of, Agrees, IsDisagreement, IsPlanOf}
@@ -69,14 +67,7 @@ module _ (t : TimedView) (bytes behind_head behind_routes left : List ℕ) (head
 pub through_known : (t : TimedView) (bytes : List ℕ) (head : HeadView) (routes : List Route) (slots : List Slot) → IsReadThrough t bytes head routes slots → IsKnownRow t head routes slots × (slots ≢ [])
 through_known t bytes head routes slots through = read_known t through.lines bytes (behind_end head routes slots) [] through.read
 
--- slots that last some ticks last at least one together
-pub some_ticks : (routes : List Route) (slots : List Slot) → slots ≢ [] → All (IsSlot (lanes_of routes)) slots → 1 ≤ sum_by (λ slot. slot.duration) slots
-some_ticks routes [] some all = absurd (some refl)
-some_ticks routes (slot ∷ slots) some all =
-    let sum : sum_by (λ (slot : Slot). slot.duration) (slot ∷ slots) ≡ slot.duration + sum_by (λ (slot : Slot). slot.duration) slots = sum_by-cons (λ (slot : Slot). slot.duration) slot slots in
-    omega (arith, sum, (All-head (IsSlot (lanes_of routes)) slot slots all).some)
-
-some_slots : (slots : List Slot) → slots ≢ [] → 1 ≤ length slots
+pub some_slots : (slots : List Slot) → slots ≢ [] → 1 ≤ length slots
 some_slots [] some = absurd (some refl)
 some_slots (slot ∷ slots) some = omega arith
 
