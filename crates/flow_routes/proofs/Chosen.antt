@@ -1,17 +1,16 @@
 -- The routes of all nodes, one after another.
-use Rattle.std.proofs.Common.{rules, ◌≡◌, ◌≢◌, ℕ, zero, suc, ◌+◌, ◌-◌, ◌*◌, ◌<◌, ◌≤◌, cond, nat_eq, nat_lt, count_by, All, List, [], ◌∷◌, ◌++◌, append_assoc, length, length-append, get_or, arith, refl, sym, ◌∙◌, ap, subst, inl, inr}
+use Rattle.std.proofs.Common.{rules, ◌≡◌, ℕ, zero, suc, ◌+◌, ◌-◌, ◌*◌, ◌<◌, ◌≤◌, cond, nat_eq, nat_lt, count_by, All, List, ◌++◌, append_assoc, length, length-append, get_or, arith, refl, sym, ◌∙◌, ap, subst, inl, inr}
 use Rattle.std.specs.Prelude.{slice_index}
-use Rattle.std.proofs.lemmas.Bool.{cases_eq, cases_lt, cases_order, eq-eqb, ne_eqb, lt-ltb, le-ltb}
+use Rattle.std.proofs.lemmas.Bool.{cases_eq, cases_order, eq-eqb, ne_eqb, lt-ltb, le-ltb}
 use Rattle.std.proofs.lemmas.List.Elements.{All-append}
 use Rattle.std.proofs.lemmas.List.Sums.{sum_by-append, count_by-le-length}
 use Rattle.flow_routes.specs.Flows.{IsKept, IsFlow, only}
 use Rattle.flow_routes.specs.Routes.{IsSimpleRoute, carried, brought, AreRoutes}
-use Rattle.flow_routes.specs.Rounds.{IsNodeServed, IsNodeStep, AreChosenFrom, AreChosen}
+use Rattle.flow_routes.specs.Rounds.{IsNodeServed, AreChosenFrom, AreChosen}
 use Rattle.flow_routes.specs.declared.flow.Flow.{Flow}
 use Rattle.flow_routes.specs.declared.flow.Route.{Route}
-use Rattle.flow_routes.proofs.Flows.{kept_less}
-use Rattle.flow_routes.proofs.Laws.{open_links, opens, opens_at_most}
-use Rattle.flow_routes.proofs.Outcomes.{Outcome, node_outcome}
+use Rattle.flow_routes.proofs.Laws.{open_links, opens_at_most}
+use Rattle.flow_routes.proofs.Outcomes.{node_outcome}
 
 -- the demands of the nodes from a node on
 abbrev pub remaining : List ℕ → ℕ → ℕ → ℕ

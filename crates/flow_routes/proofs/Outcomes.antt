@@ -1,19 +1,18 @@
 -- What the rounds that serve a node come to.
-use Rattle.std.proofs.Common.{rules, ◌≡◌, ◌≢◌, ℕ, zero, suc, ◌+◌, ◌-◌, ◌*◌, ◌<◌, ◌≤◌, Bool, true, false, cond, nat_eq, count_by, min, All, List, [], ◌∷◌, ◌++◌, append_assoc, length, drop, get_or, arith, refl, sym, ◌∙◌, ap, subst, inl, inr, ◌⊎◌}
-use Rattle.std.specs.Prelude.{sum_by, reverse}
+use Rattle.std.proofs.Common.{rules, ◌≡◌, ◌≢◌, ℕ, zero, suc, ◌+◌, ◌-◌, ◌*◌, ◌<◌, ◌≤◌, Bool, true, false, cond, nat_eq, count_by, All, List, [], ◌∷◌, ◌++◌, append_assoc, length, drop, get_or, arith, refl, sym, ◌∙◌, ap, subst, inl, inr}
+use Rattle.std.specs.Prelude.{reverse}
 use Rattle.std.specs.List.{IsDistinct}
-use Rattle.std.proofs.lemmas.Bool.{cases_eq, cases_lt, eq-eqb, ne_eqb}
-use Rattle.std.proofs.lemmas.List.{length-drop}
+use Rattle.std.proofs.lemmas.Bool.{cases_eq, cases_lt, ne_eqb}
 use Rattle.std.proofs.lemmas.List.Elements.{All-cons}
 use Rattle.std.proofs.lemmas.List.Sums.{sum_by-cons}
 use Rattle.std.proofs.lemmas.List.Sorted.{IsPermutation-reverse, sum_by-IsPermutation}
-use Rattle.flow_routes.specs.Flows.{IsKept, only, link_at}
+use Rattle.flow_routes.specs.Flows.{IsKept, only}
 use Rattle.flow_routes.specs.Routes.{IsSimpleRoute, carried, brought}
-use Rattle.flow_routes.specs.Walks.{LeadsBack, node_on, taken_along, IsEnough, left_over}
-use Rattle.flow_routes.specs.Rounds.{IsRouteRound, IsCycleRound, IsRouteStep, IsCycleStep, AreServed, own_route, IsNodeServed}
+use Rattle.flow_routes.specs.Walks.{LeadsBack, taken_along, left_over}
+use Rattle.flow_routes.specs.Rounds.{IsRouteRound, IsCycleRound, AreServed, own_route, IsNodeServed}
 use Rattle.flow_routes.specs.declared.flow.Route.{Route}
 use Rattle.flow_routes.proofs.Flows.{route_keeps, cycle_keeps, leads_from, left_over_less}
-use Rattle.flow_routes.proofs.Rounds.{RouteTakes, route_takes, CycleTakes, cycle_takes}
+use Rattle.flow_routes.proofs.Rounds.{route_takes, cycle_takes}
 use Rattle.flow_routes.proofs.Turning.{turned_walk, turned_first, turned_simple}
 use Rattle.flow_routes.proofs.Laws.{times, taken_length, taken_at, taken_less, taken_fewer, open_links, open_less, opens, opens_some, opens_at_most}
 

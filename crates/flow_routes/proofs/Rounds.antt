@@ -1,11 +1,11 @@
 -- What one round does.
-use Rattle.std.proofs.Common.{◌≡◌, ℕ, ◌+◌, ◌-◌, ◌<◌, ◌≤◌, ◌≢◌, List, [], ◌∷◌, length, drop, get_or, set, min, arith, sym, ◌∙◌, ap, subst}
+use Rattle.std.proofs.Common.{◌≡◌, ℕ, ◌+◌, ◌<◌, ◌≤◌, ◌≢◌, List, [], ◌∷◌, length, drop, get_or, arith, sym, ◌∙◌, ap, subst}
 use Rattle.std.proofs.lemmas.List.{get_or-drop, length-drop}
-use Rattle.flow_routes.specs.Flows.{IsKept, link_at}
-use Rattle.flow_routes.specs.Walks.{LeadsBack, node_on, IsBackWalk, IsClear, IsEnough, IsLeastOn, left_over}
+use Rattle.flow_routes.specs.Flows.{link_at}
+use Rattle.flow_routes.specs.Walks.{LeadsBack, IsBackWalk, IsClear, IsEnough, IsLeastOn}
 use Rattle.flow_routes.specs.Rounds.{IsRouteRound, IsCycleRound}
 use Rattle.flow_routes.specs.declared.flow.Route.{Route}
-use Rattle.flow_routes.proofs.Flows.{leads_from, enough_along}
+use Rattle.flow_routes.proofs.Flows.{enough_along}
 
 pub some_link : (links : List (ℕ × ℕ)) (node : ℕ) (path : List ℕ) (end : ℕ) → LeadsBack links node path end → node ≢ end → 0 < length path
 some_link links node [] end leads ne = absurd (ne leads)

@@ -1,5 +1,5 @@
 -- The ruled choice of routes, round by round.
-use Rattle.std.specs.Prelude.{◌≡◌, ℕ, zero, suc, ◌+◌, ◌-◌, ◌<◌, ◌≤◌, ◌≢◌, ◌⊎◌, min, cond, nat_eq, List, [], ◌∷◌, ◌++◌, length, drop, reverse, slice_index}
+use Rattle.std.specs.Prelude.{◌≡◌, ℕ, zero, suc, ◌-◌, ◌<◌, ◌≢◌, ◌⊎◌, min, List, [], ◌∷◌, ◌++◌, length, drop, reverse, slice_index}
 use Rattle.flow_routes.specs.Walks.{IsBackWalk, IsLeastOn, node_on, taken_along}
 use Rattle.flow_routes.specs.declared.flow.Flow.{Flow}
 use Rattle.flow_routes.specs.declared.flow.Route.{Route}

@@ -1,5 +1,5 @@
 -- Walks backward from a node, each time over the first link with amount left.
-use Rattle.std.specs.Prelude.{◌≡◌, ℕ, ◌+◌, ◌-◌, ◌<◌, ◌≤◌, ◌≢◌, Bool, false, true, cond, List, [], ◌∷◌, length, drop, slice_index, slice_index_or, slice_set, not, count_by}
+use Rattle.std.specs.Prelude.{◌≡◌, ℕ, ◌+◌, ◌-◌, ◌<◌, ◌≤◌, ◌≢◌, Bool, false, true, cond, List, [], ◌∷◌, length, slice_index, slice_index_or, slice_set, not, count_by}
 use Rattle.flow_routes.specs.Flows.{passing, link_at}
 
 -- the links lead backward from a node to a start

@@ -1,5 +1,4 @@
 use Rattle.std.proofs.Common.{rules, ◌≡◌}
-use Rattle.std.specs.Int.{IsGcd}
 use Rattle.std.proofs.lemmas.Nat.Gcd.{IsGcd-from_zero, IsGcd-swap}
 use Rattle.ratio_core.proofs.GcdLemmas.{gcd_of_is}
 use Rattle.dense_tableau.proofs.row.common_divisor.Goals as goal

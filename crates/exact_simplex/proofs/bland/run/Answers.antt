@@ -1,5 +1,4 @@
 use Rattle.std.proofs.Common.{◌≡◌, ℕ, suc, ◌+◌, ◌-◌, ◌≤◌, ◌≢◌, Some, arith, refl, add-one, sym, ◌∙◌, ap}
-use Rattle.linear_program.specs.Starts.{start_table}
 use Rattle.linear_program.specs.Pivots.{Pivoted, pivoted}
 use Rattle.exact_simplex.specs.Bland.{entering_column, leaving_row, run_from}
 use Rattle.linear_program.proofs.Starts.{start_canonical, start_derived}

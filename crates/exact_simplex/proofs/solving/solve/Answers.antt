@@ -1,6 +1,3 @@
-use Rattle.std.proofs.Common.{sym, ◌∙◌}
-use Rattle.linear_program.specs.Tables.{IsDerived}
-use Rattle.linear_program.specs.Starts.{start_table}
 use Rattle.exact_simplex.proofs.Ends.{best_not_negative, ended_is_optimal}
 use Rattle.exact_simplex.proofs.solving.solve.Goals as goal
 

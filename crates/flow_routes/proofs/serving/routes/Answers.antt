@@ -1,6 +1,6 @@
-use Rattle.std.proofs.Common.{◌≡◌, ℕ, ◌+◌, ◌-◌, ◌<◌, ◌≤◌, List, [], ◌++◌, append-nil, add-one, length, slice_index, arith, refl, sym, ◌∙◌, ap, subst}
+use Rattle.std.proofs.Common.{◌≡◌, ◌+◌, ◌-◌, ◌<◌, [], append-nil, add-one, length, slice_index, arith, refl, sym, ◌∙◌, ap, subst}
 use Rattle.std.proofs.lemmas.List.{with_items_is}
-use Rattle.flow_routes.specs.Flows.{IsKept, only}
+use Rattle.flow_routes.specs.Flows.{IsKept}
 use Rattle.flow_routes.specs.Rounds.{IsNodeServed, AreChosen, AreChosenFrom}
 use Rattle.flow_routes.proofs.Chosen.{remaining, GoesOn, goes_on, kept_on, chosen_are_routes}
 use Rattle.flow_routes.proofs.serving.routes.Goals as goal

@@ -1,6 +1,5 @@
-use Rattle.std.proofs.Common.{◌≡◌, ◌≢◌, ℕ, ◌+◌, ◌-◌, ◌<◌, List, [], ◌∷◌, ◌++◌, append_assoc, append-nil, length, arith, refl, sym, ◌∙◌, ap, subst}
-use Rattle.std.specs.Prelude.{IfSome, IfNone, Some, None}
-use Rattle.flow_routes.specs.Flows.{IsKept, only}
+use Rattle.std.proofs.Common.{◌≡◌, ℕ, List, [], ◌∷◌, ◌++◌, append_assoc, append-nil, length, arith, refl, ◌∙◌, ap, subst}
+use Rattle.std.specs.Prelude.{IfSome, IfNone}
 use Rattle.flow_routes.specs.Rounds.{IsRouteRound, IsCycleRound, AreServed}
 use Rattle.flow_routes.specs.declared.flow.Route.{Route}
 use Rattle.flow_routes.proofs.Outcomes.{route_falls, cycle_falls, route_keeps_only, cycle_keeps_only, continues_route, continues_cycle}

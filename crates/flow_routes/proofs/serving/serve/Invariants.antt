@@ -1,4 +1,4 @@
-use Rattle.std.proofs.Common.{◌≡◌, ℕ, ◌<◌, ◌≤◌, List, ◌++◌, length}
+use Rattle.std.proofs.Common.{◌≡◌, List, ◌++◌, length}
 use Rattle.flow_routes.specs.Flows.{IsKept, only}
 use Rattle.flow_routes.specs.Walks.{left_over}
 use Rattle.flow_routes.specs.declared.flow.Route.{Route}
