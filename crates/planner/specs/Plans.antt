@@ -1,5 +1,5 @@
 -- What a plan is, and why a platform has none.
-use Rattle.std.specs.Prelude.{◌≡◌, ℕ, List, codes, Option, Some, None, option_and_then, Result, Ok, Err}
+use Rattle.std.specs.Prelude.{◌≡◌, ℕ, List, ◌++◌, codes, decimal, Option, Some, None, option_and_then, Result, Ok, Err}
 use Rattle.platform_file.specs.Ticks.{TimedView}
 use Rattle.linear_program.specs.Starts.{start_table}
 use Rattle.linear_program.specs.declared.certificate.Optimum.{Optimum}
@@ -23,6 +23,13 @@ abbrev pub step_text : PeriodStep → List ℕ
 step_text Denominators = codes "denominators"
 step_text Costs = codes "costs"
 step_text Product = codes "product"
+
+-- the line that names why a platform isn't planned
+abbrev pub plan_fault_text : PlanFault → List ℕ
+plan_fault_text (PlanFault.Pivot pivots row column) = codes "pivot overflow after " ++ (decimal pivots ++ (codes " pivots at cell " ++ (decimal row ++ (codes " " ++ decimal column))))
+plan_fault_text (PlanFault.Spent limit) = codes "pivot limit " ++ (decimal limit ++ codes " spent")
+plan_fault_text (PlanFault.Period step left right) = codes "period overflow at " ++ (step_text step ++ (codes ": " ++ (decimal left ++ (codes " and " ++ decimal right))))
+plan_fault_text PlanFault.NoMemory = codes "out of memory"
 
 -- why there is no plan where the programme isn't solved
 abbrev pub plan_fault : SolveFault → PlanFault

@@ -3,33 +3,54 @@
 use crate::numbers::{PeriodStep, TableFault};
 use exact_simplex::SolveFault;
 use listed::NoMemory;
-use thiserror::Error;
+use std::fmt;
 
-/// Why a platform isn't planned.
-#[derive(Clone, Copy, Debug, PartialEq, Eq, Error)]
+/// Why a platform isn't planned. `Display` writes the line that names the fault, without a line feed.
+#[derive(Clone, Copy, Debug, PartialEq, Eq)]
 pub enum PlanFault {
     /// After so many pivots the next one passes 2^127 - 1 in size, first at this cell of the table.
-    #[error("after {pivots} pivots the next one overflows at row {row}, column {column}")]
     Pivot {
         pivots: u64,
         row: u32,
         column: u32,
     },
     /// The best rate isn't reached after so many pivots, which is all that were allowed.
-    #[error("{limit} pivots are spent")]
     Spent {
         limit: u64,
     },
     /// The period of the best solution passes 2^100 ticks: at this step the multiple so far and the next number, or the two factors.
-    #[error("the period overflows at its {step}: {left} and {right}")]
     Period {
         step: PeriodStep,
         left: u128,
         right: u128,
     },
     /// Memory ran out.
-    #[error("no memory")]
     NoMemory,
+}
+
+impl fmt::Display for PlanFault {
+    ghost use Rattle.std.specs.Prelude.{Some};
+    ghost use Rattle.planner.specs.Plans.{plan_fault_text};
+
+    ghost output = { λ fault. Some (plan_fault_text fault) };
+
+    fn fmt<W: fmt::Write>(&self, f: &mut fmt::Formatter<W>) -> fmt::Result {
+        match self {
+            PlanFault::Pivot {
+                pivots,
+                row,
+                column,
+            } => write!(
+                f,
+                "pivot overflow after {pivots} pivots at cell {row} {column}"
+            ),
+            PlanFault::Spent { limit } => write!(f, "pivot limit {limit} spent"),
+            PlanFault::Period { step, left, right } => {
+                write!(f, "period overflow at {step}: {left} and {right}")
+            }
+            PlanFault::NoMemory => write!(f, "out of memory"),
+        }
+    }
 }
 
 impl From<NoMemory> for PlanFault {

@@ -4,3 +4,5 @@ pub mod Documents
 pub mod Places
 pub mod Reading
 pub mod Sections
+pub mod FaultTexts
+pub mod Wordings

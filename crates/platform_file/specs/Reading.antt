@@ -53,16 +53,33 @@ is_version_one None = false
 is_version_one (Some (pos n)) = nat_eq n 1
 is_version_one (Some (negsuc n)) = false
 
+-- the master's name, where the top table has no strange key and the version is the format's
+abbrev pub master_name_of : Members → Result (List ℕ) PlatformFault
+master_name_of document =
+    cond (has_other_key top_keys document) (Err (bad_field Top at.Extra))
+    (cond (not (is_version_one (integer_at (codes "version") document))) (Err (bad_field Top at.Version))
+    (ok_or (text_at (codes "master") document) (bad_field Top at.Master)))
+
+-- the targets' names; without the key there is none
+abbrev pub target_names_of : Members → Result (List (List ℕ)) PlatformFault
+target_names_of document = ok_or (optional_items as_str (get_member (codes "targets") document)) (bad_field Top at.Targets)
+
+-- the tables of nodes
+abbrev pub node_tables_of : Members → Result (List Members) PlatformFault
+node_tables_of document = ok_or (option_and_then (items_of as_table) (get_member (codes "node") document)) (bad_field Top at.Nodes)
+
+-- the tables of links; without the key there is none
+abbrev pub link_tables_of : Members → Result (List Members) PlatformFault
+link_tables_of document = ok_or (optional_items as_table (get_member (codes "link") document)) (bad_field Top at.Links)
+
 -- the top table: no strange key, the version, the master's name, the targets' names, the tables of nodes and of links
 abbrev pub sections_of : Members → Result SectionsView PlatformFault
 sections_of document =
-    cond (has_other_key top_keys document) (Err (bad_field Top at.Extra))
-    (cond (not (is_version_one (integer_at (codes "version") document))) (Err (bad_field Top at.Version))
-    (and_then (ok_or (text_at (codes "master") document) (bad_field Top at.Master)) (λ master.
-    and_then (ok_or (optional_items as_str (get_member (codes "targets") document)) (bad_field Top at.Targets)) (λ targets.
-    and_then (ok_or (option_and_then (items_of as_table) (get_member (codes "node") document)) (bad_field Top at.Nodes)) (λ nodes.
-    and_then (ok_or (optional_items as_table (get_member (codes "link") document)) (bad_field Top at.Links)) (λ links.
-    Ok (record { master = master; targets = targets; nodes = nodes; links = links })))))))
+    and_then (master_name_of document) (λ master.
+    and_then (target_names_of document) (λ targets.
+    and_then (node_tables_of document) (λ nodes.
+    and_then (link_tables_of document) (λ links.
+    Ok (record { master = master; targets = targets; nodes = nodes; links = links })))))
 
 -- no more nodes, links and targets than are allowed
 abbrev pub within_limits : SectionsView → Result SectionsView PlatformFault
@@ -150,14 +167,17 @@ link_in nodes earlier table =
     and_then (known_node nodes (Link (length earlier)) at.To to) (λ receiver.
     joining earlier (record { from = sender; to = receiver; cost = cost })))))))
 
--- the nodes, then the master, then the targets, then the links
-abbrev pub platform_of_sections : SectionsView → Result PlatformView PlatformFault
-platform_of_sections s =
-    and_then (each_of node_in [] s.nodes) (λ nodes.
+-- behind the nodes: the master, then the targets, then the links
+abbrev pub platform_over : List NodeView → SectionsView → Result PlatformView PlatformFault
+platform_over nodes s =
     and_then (known_node nodes Top at.Master s.master) (λ master.
     and_then (each_of (target_in nodes master) [] s.targets) (λ targets.
     and_then (each_of (link_in nodes) [] s.links) (λ links.
-    Ok (record { nodes = nodes; links = links; master = master; targets = targets })))))
+    Ok (record { nodes = nodes; links = links; master = master; targets = targets }))))
+
+-- the nodes, then the master, then the targets, then the links
+abbrev pub platform_of_sections : SectionsView → Result PlatformView PlatformFault
+platform_of_sections s = and_then (each_of node_in [] s.nodes) (λ nodes. platform_over nodes s)
 
 -- a document is a platform by its top table, the limits, and what the sections say
 abbrev pub platform_of_document : Members → Result PlatformView PlatformFault

@@ -2,7 +2,10 @@
 
 ghost use Rattle.std.specs.Prelude.{◌≡◌};
 ghost use Rattle.platform_file.specs.declared.fault.PlatformFault.TheVariants.{NoMemory as OutOfMemory};
+ghost use Rattle.platform_file.specs.FaultTexts.{limit_text, cause_text, fault_text};
+ghost use Rattle.platform_file.specs.Places.{field_text};
 ghost use Rattle.platform_file.specs.Reading.{bad_field, unknown};
+ghost use Rattle.platform_file.specs.Wordings.{wording_text};
 
 use listed::NoMemory;
 use ratio_core::RatioFault;
@@ -73,6 +76,26 @@ pub struct Place {
     pub field: Field,
 }
 
+/// The word for a field.
+fn field_word(field: Field) -> &'static str
+    ensures { result.now ≡ field_text field }
+{
+    match field {
+        Field::Version => "version",
+        Field::Master => "master",
+        Field::Targets => "targets",
+        Field::Nodes => "nodes",
+        Field::Links => "links",
+        Field::Name => "name",
+        Field::Time => "time",
+        Field::From => "from",
+        Field::To => "to",
+        Field::Cost => "cost",
+        Field::Itself => "itself",
+        Field::Extra => "extra",
+    }
+}
+
 impl fmt::Display for Field {
     ghost use Rattle.std.specs.Prelude.{Some};
     ghost use Rattle.platform_file.specs.Places.{field_text};
@@ -80,20 +103,8 @@ impl fmt::Display for Field {
     ghost output = { λ field. Some (field_text field) };
 
     fn fmt<W: fmt::Write>(&self, f: &mut fmt::Formatter<W>) -> fmt::Result {
-        match self {
-            Field::Version => write!(f, "version"),
-            Field::Master => write!(f, "master"),
-            Field::Targets => write!(f, "targets"),
-            Field::Nodes => write!(f, "nodes"),
-            Field::Links => write!(f, "links"),
-            Field::Name => write!(f, "name"),
-            Field::Time => write!(f, "time"),
-            Field::From => write!(f, "from"),
-            Field::To => write!(f, "to"),
-            Field::Cost => write!(f, "cost"),
-            Field::Itself => write!(f, "itself"),
-            Field::Extra => write!(f, "extra"),
-        }
+        let word = field_word(*self);
+        write!(f, "{word}")
     }
 }
 
@@ -104,7 +115,7 @@ impl fmt::Display for Place {
     ghost output = { λ place. Some (place_text place) };
 
     fn fmt<W: fmt::Write>(&self, f: &mut fmt::Formatter<W>) -> fmt::Result {
-        let field = self.field;
+        let field = field_word(self.field);
         match self.section {
             Section::Top => write!(f, "top.{field}"),
             Section::Node(number) => write!(f, "node {number}.{field}"),
@@ -114,8 +125,8 @@ impl fmt::Display for Place {
     }
 }
 
-/// Why some bytes are no platform.
-#[derive(Clone, Copy, Debug, PartialEq, Eq)]
+/// Why some bytes are no platform. `Display` and `Debug` write the line that names the fault, without a line feed.
+#[derive(Clone, Copy, PartialEq, Eq)]
 pub enum PlatformFault {
     /// More of a kind than is allowed, and how much there is.
     Limit(Kind, u64),
@@ -157,6 +168,109 @@ impl PlatformFault {
     }
 }
 
+/// The words for why a text is no fraction.
+fn cause_words(cause: RatioFault) -> &'static str
+    ensures { result.now ≡ cause_text cause }
+{
+    match cause {
+        RatioFault::Shape => ": shape",
+        RatioFault::Zero => ": zero",
+        RatioFault::TooLarge => ": too large",
+    }
+}
+
+/// How a line that names a fault is put together: words, and a number or a place between them.
+#[derive(Clone, Copy)]
+enum Wording {
+    Plain(&'static str),
+    Number(&'static str, u64),
+    Numbered(&'static str, u64, &'static str),
+    Place(&'static str, Place),
+    Placed(&'static str, Place, &'static str),
+}
+
+impl fmt::Display for Wording {
+    ghost use Rattle.std.specs.Prelude.{Some};
+    ghost use Rattle.platform_file.specs.Wordings.{wording_text};
+
+    ghost output = { λ wording. Some (wording_text wording) };
+
+    fn fmt<W: fmt::Write>(&self, f: &mut fmt::Formatter<W>) -> fmt::Result {
+        match self {
+            Wording::Plain(words) => write!(f, "{words}"),
+            Wording::Number(words, number) => write!(f, "{words}{number}"),
+            Wording::Numbered(words, number, rest) => write!(f, "{words}{number}{rest}"),
+            Wording::Place(words, place) => write!(f, "{words}{place}"),
+            Wording::Placed(words, place, rest) => write!(f, "{words}{place}{rest}"),
+        }
+    }
+}
+
+/// The words for what there is too much of.
+fn limit_wording(kind: Kind, found: u64) -> Wording
+    ensures { wording_text result ≡ limit_text kind found }
+{
+    match kind {
+        Kind::Text => Wording::Numbered("platform: text of ", found, " bytes"),
+        Kind::Nodes => Wording::Number("platform: too many nodes: ", found),
+        Kind::Links => Wording::Number("platform: too many links: ", found),
+        Kind::Targets => Wording::Number("platform: too many targets: ", found),
+    }
+}
+
+/// The words for a fault.
+fn wording_of(fault: PlatformFault) -> Wording
+    ensures { wording_text result ≡ fault_text fault }
+{
+    match fault {
+        PlatformFault::Limit(kind, found) => limit_wording(kind, found),
+        PlatformFault::NotToml => Wording::Plain("platform: not TOML"),
+        PlatformFault::BadField(place) => Wording::Place("platform: bad field ", place),
+        PlatformFault::TwiceNamed(node) => {
+            Wording::Numbered("platform: node ", u64::from(node), " named twice")
+        }
+        PlatformFault::Unknown(place) => Wording::Place("platform: unknown name at ", place),
+        PlatformFault::TargetIsMaster(target) => {
+            Wording::Numbered("platform: target ", u64::from(target), " is the master")
+        }
+        PlatformFault::TargetTwice(target) => {
+            Wording::Numbered("platform: target ", u64::from(target), " named twice")
+        }
+        PlatformFault::SelfLink(link) => {
+            Wording::Numbered(
+                "platform: link ",
+                u64::from(link),
+                " joins a node to itself",
+            )
+        }
+        PlatformFault::TwiceLinked(link) => {
+            Wording::Numbered("platform: link ", u64::from(link), " given twice")
+        }
+        PlatformFault::BadRatio(place, cause) => {
+            Wording::Placed("platform: bad ratio at ", place, cause_words(cause))
+        }
+        PlatformFault::NoMemory => Wording::Plain("out of memory"),
+    }
+}
+
+impl fmt::Display for PlatformFault {
+    ghost use Rattle.std.specs.Prelude.{Some};
+    ghost use Rattle.platform_file.specs.FaultTexts.{fault_text};
+
+    ghost output = { λ fault. Some (fault_text fault) };
+
+    fn fmt<W: fmt::Write>(&self, f: &mut fmt::Formatter<W>) -> fmt::Result {
+        let wording = wording_of(*self);
+        write!(f, "{wording}")
+    }
+}
+
+impl fmt::Debug for PlatformFault {
+    fn fmt<W: fmt::Write>(&self, f: &mut fmt::Formatter<W>) -> fmt::Result {
+        fmt::Display::fmt(self, f)
+    }
+}
+
 impl From<AllocError> for PlatformFault {
     ghost from_gives = { λ _ fault. fault ≡ OutOfMemory };
 
@@ -173,7 +287,7 @@ impl From<NoMemory> for PlatformFault {
     }
 }
 
-/// Why a platform has no ticks.
+/// Why a platform has no ticks. `Display` writes the line that names the fault, without a line feed.
 #[derive(Clone, Copy, Debug, PartialEq, Eq)]
 pub enum TimedFault {
     /// The least common multiple of the denominators passes 2^40: that of those before is `left`, and `right` is the first
@@ -191,5 +305,21 @@ impl From<NoMemory> for TimedFault {
 
     fn from(_error: NoMemory) -> TimedFault {
         TimedFault::NoMemory
+    }
+}
+
+impl fmt::Display for TimedFault {
+    ghost use Rattle.std.specs.Prelude.{Some};
+    ghost use Rattle.platform_file.specs.FaultTexts.{timed_fault_text};
+
+    ghost output = { λ fault. Some (timed_fault_text fault) };
+
+    fn fmt<W: fmt::Write>(&self, f: &mut fmt::Formatter<W>) -> fmt::Result {
+        match self {
+            TimedFault::Unit { left, right } => {
+                write!(f, "ticks overflow: lcm of {left} and {right}")
+            }
+            TimedFault::NoMemory => write!(f, "out of memory"),
+        }
     }
 }

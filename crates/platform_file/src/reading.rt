@@ -5,7 +5,7 @@ ghost use Rattle.toml.specs.View.{view, table_view};
 ghost use Rattle.platform_file.specs.Platform.{same_ends, same_name, IsNode, IsLink, IsTarget};
 ghost use Rattle.ratio_core.specs.Texts.{HasSmallParts};
 ghost use Rattle.platform_file.specs.Documents.{document_of};
-ghost use Rattle.platform_file.specs.Reading.{IsFaultOf, platform_of, each_of, node_in, name_in, time_in, span_of, whole_ratio, ratio_of_value, node_named, known_node, target_in, cost_in, joining, link_in, platform_of_sections};
+ghost use Rattle.platform_file.specs.Reading.{IsFaultOf, platform_of, each_of, node_in, name_in, time_in, span_of, whole_ratio, ratio_of_value, node_named, known_node, target_in, cost_in, joining, link_in, platform_over, platform_of_sections};
 ghost use Rattle.platform_file.specs.Sections.{sections_view};
 ghost use Rattle.platform_file.specs.declared.fault.PlatformFault.TheVariants.{NotToml};
 ghost use Rattle.std.specs.List.{list_any, IsDistinct};
@@ -292,6 +292,29 @@ fn read_links(
     Ok(links)
 }
 
+/// What stands beside the nodes: the master, the targets and the links.
+fn read_over(
+    alloc: Global,
+    nodes: &[Node],
+    sections: &Sections<'_>,
+) -> Result<(u32, Listed<u32>, Listed<Link>), PlatformFault>
+    requires nodes { length nodes.now ≤ 32 }
+    requires links { length sections.now.links.items ≤ 128 }
+    requires targets { length sections.now.targets.items ≤ 8 }
+    ensures value { MatchResult result (λ rest. platform_over nodes.now (sections_view sections.now) ≡ Ok (record { nodes = nodes.now; links = rest.2; master = rest.0; targets = rest.1 })) (λ fault. IsFaultOf fault (platform_over nodes.now (sections_view sections.now))) }
+    ensures master { IfOk result (λ rest. rest.0 < length nodes.now) }
+    ensures targets { IfOk result (λ rest. All (IsTarget nodes.now rest.0) rest.1) }
+    ensures differ { IfOk result (λ rest. IsDistinct nat_eq rest.1) }
+    ensures few { IfOk result (λ rest. (length rest.1 ≤ 8) × (length rest.2 ≤ 128)) }
+    ensures links { IfOk result (λ rest. All (IsLink nodes.now) rest.2) }
+    ensures apart { IfOk result (λ rest. IsDistinct same_ends rest.2) }
+{
+    let master = read_known(nodes, Section::Top, Field::Master, sections.master)?;
+    let targets = read_targets(alloc, nodes, master, &sections.targets)?;
+    let links = read_links(alloc, nodes, &sections.links)?;
+    Ok((master, targets, links))
+}
+
 /// The platform of the sections of a top table.
 fn read_sections_platform(alloc: Global, sections: &Sections<'_>) -> Result<Platform, PlatformFault>
     requires nodes { length sections.now.nodes.items ≤ 32 }
@@ -300,14 +323,7 @@ fn read_sections_platform(alloc: Global, sections: &Sections<'_>) -> Result<Plat
     ensures { MatchResult result (λ platform. platform_of_sections (sections_view sections.now) ≡ Ok platform) (λ fault. IsFaultOf fault (platform_of_sections (sections_view sections.now))) }
 {
     let nodes = read_nodes(alloc, &sections.nodes)?;
-    let master = read_known(
-        nodes.as_slice(),
-        Section::Top,
-        Field::Master,
-        sections.master,
-    )?;
-    let targets = read_targets(alloc, nodes.as_slice(), master, &sections.targets)?;
-    let links = read_links(alloc, nodes.as_slice(), &sections.links)?;
+    let (master, targets, links) = read_over(alloc, nodes.as_slice(), sections)?;
     Ok(Platform::new(nodes, links, master, targets))
 }
 

@@ -101,6 +101,23 @@ fn costs_of(alloc: Global, unit: u64, links: &[Link]) -> Result<Listed<u64>, NoM
     Ok(costs)
 }
 
+/// The ticks of all nodes' tasks, and of all links' tasks or messages.
+fn spans_of(
+    alloc: Global,
+    unit: u64,
+    platform: &Platform,
+) -> Result<(Listed<Option<u64>>, Listed<u64>), NoMemory>
+    requires unit { unit ≤ 2 ^ 40 }
+    requires nodes { All IsNode platform.now.nodes }
+    requires links { All (λ link. HasSmallParts link.cost) platform.now.links }
+    ensures times { IfOk result (λ spans. spans.0 ≡ map (λ node. option_map (ticks_of unit) node.time) platform.now.nodes) }
+    ensures costs { IfOk result (λ spans. spans.1 ≡ map (λ link. ticks_of unit link.cost) platform.now.links) }
+{
+    let times = times_of(alloc, unit, platform.nodes())?;
+    let costs = costs_of(alloc, unit, platform.links())?;
+    Ok((times, costs))
+}
+
 /// The platform in ticks, where a time unit has at most 2^40 of them: the least common multiple of the denominators of all times
 /// and costs, folded over the times in node order and then over the costs in link order, from 1 on. `Unit` comes exactly where
 /// it has more. A refusal drops the platform.
@@ -112,7 +129,6 @@ pub fn timed(alloc: Global, platform: Platform) -> Result<Timed, TimedFault>
     platform.known();
     multiples_are_least();
     let unit = unit_of(&platform)? as u64;
-    let times = times_of(alloc, unit, platform.nodes())?;
-    let costs = costs_of(alloc, unit, platform.links())?;
+    let (times, costs) = spans_of(alloc, unit, &platform)?;
     Ok(Timed::new(platform, unit, times, costs))
 }

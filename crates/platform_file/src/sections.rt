@@ -1,8 +1,8 @@
 //! The top table of a platform file.
 
-ghost use Rattle.std.specs.Prelude.{◌≡◌, ◌≤◌, Ok, MatchResult, IfOk, length};
+ghost use Rattle.std.specs.Prelude.{◌≡◌, ◌≤◌, Ok, MatchResult, IfOk, length, map};
 ghost use Rattle.toml.specs.View.{table_view};
-ghost use Rattle.platform_file.specs.Reading.{IsFaultOf, sections_of, within_limits};
+ghost use Rattle.platform_file.specs.Reading.{IsFaultOf, master_name_of, target_names_of, node_tables_of, link_tables_of, sections_of, within_limits};
 ghost use Rattle.platform_file.specs.Sections.{sections_view};
 
 use crate::document::{
@@ -30,9 +30,9 @@ pub(crate) struct Sections<'a> {
     pub(crate) links: Vec<&'a Table>,
 }
 
-/// The top table's sections.
-pub(crate) fn read_sections(alloc: Global, document: &Table) -> Result<Sections<'_>, PlatformFault>
-    ensures { MatchResult result (λ s. sections_of (table_view document.now) ≡ Ok (sections_view s)) (λ fault. IsFaultOf fault (sections_of (table_view document.now))) }
+/// The master's name, where the top table has no strange key and the version is the format's.
+fn master_name(document: &Table) -> Result<&str, PlatformFault>
+    ensures { MatchResult result (λ name. master_name_of (table_view document.now) ≡ Ok name.now) (λ fault. IsFaultOf fault (master_name_of (table_view document.now))) }
 {
     if has_other_key(&["version", "master", "targets", "node", "link"], document) {
         return Err(PlatformFault::bad_field(Section::Top, Field::Extra));
@@ -40,18 +40,50 @@ pub(crate) fn read_sections(alloc: Global, document: &Table) -> Result<Sections<
     if integer_at(document, "version") != Some(1) {
         return Err(PlatformFault::bad_field(Section::Top, Field::Version));
     }
-    let Some(master) = text_at(document, "master") else {
-        return Err(PlatformFault::bad_field(Section::Top, Field::Master));
-    };
-    let Some(targets) = optional_texts(alloc, document, "targets")? else {
-        return Err(PlatformFault::bad_field(Section::Top, Field::Targets));
-    };
-    let Some(nodes) = tables_at(alloc, document, "node")? else {
-        return Err(PlatformFault::bad_field(Section::Top, Field::Nodes));
-    };
-    let Some(links) = optional_tables(alloc, document, "link")? else {
-        return Err(PlatformFault::bad_field(Section::Top, Field::Links));
-    };
+    match text_at(document, "master") {
+        Some(master) => Ok(master),
+        None => Err(PlatformFault::bad_field(Section::Top, Field::Master)),
+    }
+}
+
+/// The targets' names.
+fn target_names(alloc: Global, document: &Table) -> Result<Vec<&str>, PlatformFault>
+    ensures { MatchResult result (λ names. target_names_of (table_view document.now) ≡ Ok (map (λ text. text.now) names.items)) (λ fault. IsFaultOf fault (target_names_of (table_view document.now))) }
+{
+    match optional_texts(alloc, document, "targets")? {
+        Some(targets) => Ok(targets),
+        None => Err(PlatformFault::bad_field(Section::Top, Field::Targets)),
+    }
+}
+
+/// The tables of nodes.
+fn node_tables(alloc: Global, document: &Table) -> Result<Vec<&Table>, PlatformFault>
+    ensures { MatchResult result (λ tables. node_tables_of (table_view document.now) ≡ Ok (map (λ table. table_view table.now) tables.items)) (λ fault. IsFaultOf fault (node_tables_of (table_view document.now))) }
+{
+    match tables_at(alloc, document, "node")? {
+        Some(nodes) => Ok(nodes),
+        None => Err(PlatformFault::bad_field(Section::Top, Field::Nodes)),
+    }
+}
+
+/// The tables of links.
+fn link_tables(alloc: Global, document: &Table) -> Result<Vec<&Table>, PlatformFault>
+    ensures { MatchResult result (λ tables. link_tables_of (table_view document.now) ≡ Ok (map (λ table. table_view table.now) tables.items)) (λ fault. IsFaultOf fault (link_tables_of (table_view document.now))) }
+{
+    match optional_tables(alloc, document, "link")? {
+        Some(links) => Ok(links),
+        None => Err(PlatformFault::bad_field(Section::Top, Field::Links)),
+    }
+}
+
+/// The top table's sections.
+pub(crate) fn read_sections(alloc: Global, document: &Table) -> Result<Sections<'_>, PlatformFault>
+    ensures { MatchResult result (λ s. sections_of (table_view document.now) ≡ Ok (sections_view s)) (λ fault. IsFaultOf fault (sections_of (table_view document.now))) }
+{
+    let master = master_name(document)?;
+    let targets = target_names(alloc, document)?;
+    let nodes = node_tables(alloc, document)?;
+    let links = link_tables(alloc, document)?;
     Ok(Sections {
         master,
         targets,

@@ -4,3 +4,4 @@ pub mod Throughput
 pub mod Breaches
 pub mod Tallies
 pub mod Texts
+pub mod BreachTexts

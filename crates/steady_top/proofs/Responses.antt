@@ -3,9 +3,10 @@ use Rattle.std.proofs.Common.{◌≡◌, ◌∙◌, ℕ, List, Option, Some, Non
 use Rattle.outside_io.specs.Faults.{Rose}
 use Rattle.outside_io.specs.Files.{Told, untold, absent, contents, FilesView, MayFail}
 use Rattle.outside_io.specs.Sinks.{SinkView}
+use Rattle.planner.specs.declared.fault.PlanFault.TheVariants as plans
 use Rattle.steady_top.specs.declared.status.Status.{Status}
 use Rattle.steady_top.specs.declared.status.Status.TheVariants as status
-use Rattle.steady_top.specs.Refusals.{Reason, limit, not_toml, bad_field, twice_named, unknown, target_is_master, target_twice, self_link, twice_linked, bad_ratio, unit, pivot, spent, period, long_certificate, certificate_line, negative_price, uncovered_column, passed_value, check_overflow, long_plan, plan_line, long_operations, breach, Refusal, usage, refused, cannot_read, no_memory, reason_status, status_of, error_line}
+use Rattle.steady_top.specs.Refusals.{Reason, no_platform, no_ticks, no_plan, long_certificate, certificate_line, negative_price, uncovered_column, passed_value, check_overflow, long_plan, plan_line, long_operations, breach, Refusal, usage, refused, cannot_read, no_memory, reason_status, status_of, error_line}
 use Rattle.command_words.specs.Words.{Command, plan, prices, check, audit, command_of}
 use Rattle.platform_file.specs.Ticks.{TimedView}
 use Rattle.steady_top.specs.Outcomes.{first_name, second_name, Outcome, refuses, IsText, IsRefusal, work_of, outcome_for, outcome_of_command, outcome_of}
@@ -22,20 +23,12 @@ IsOfReason status.Refused = Unit {0}
 IsOfReason other = ⊥
 
 of_reason : (reason : Reason) → IsOfReason (reason_status reason)
-of_reason (limit kind found) = tt
-of_reason not_toml = tt
-of_reason (bad_field place) = tt
-of_reason (twice_named node) = tt
-of_reason (unknown place) = tt
-of_reason (target_is_master target) = tt
-of_reason (target_twice target) = tt
-of_reason (self_link link) = tt
-of_reason (twice_linked link) = tt
-of_reason (bad_ratio place cause) = tt
-of_reason (unit left right) = tt
-of_reason (pivot pivots row column) = tt
-of_reason (spent pivots) = tt
-of_reason (period step left right) = tt
+of_reason (no_platform fault) = tt
+of_reason (no_ticks fault) = tt
+of_reason (no_plan (plans.Pivot pivots row column)) = tt
+of_reason (no_plan (plans.Spent limit)) = tt
+of_reason (no_plan (plans.Period step left right)) = tt
+of_reason (no_plan plans.NoMemory) = tt
 of_reason long_certificate = tt
 of_reason (certificate_line number) = tt
 of_reason (negative_price row) = tt

@@ -27,12 +27,12 @@ use Rattle.schedule_model.specs.declared.schedule.Series.{Series}
 use Rattle.schedule_model.specs.declared.schedule.Series.TheVariants.{Tasking}
 use Rattle.schedule_model.specs.Throughput.{IsUpperRate}
 use Rattle.dual_checker.specs.Texts.{certificate_text}
-use Rattle.steady_top.specs.Refusals.{Reason, limit, not_toml, bad_field, twice_named, unknown, target_is_master, target_twice, self_link, twice_linked, bad_ratio, pivot, spent, period, long_certificate, long_plan, Refusal, usage, refused, cannot_read, no_memory, platform_refusal, timed_refusal, plan_refusal}
+use Rattle.steady_top.specs.Refusals.{Reason, no_platform, no_plan, long_certificate, long_plan, Refusal, usage, refused, cannot_read, no_memory, platform_refusal, timed_refusal, plan_refusal}
 use Rattle.command_words.specs.Words.{Command, plan, prices, check, audit}
 use Rattle.steady_top.specs.Audits.{IsAudit}
-use Rattle.steady_top.specs.Outcomes.{first_name, second_name, Outcome, prints, plans as plans_of, audits, refuses, with_timed, with_platform, with_file, planned, priced, judged, judged_reading, check_of_file, most_plan_bytes, audit_of_file, work_of}
+use Rattle.steady_top.specs.Outcomes.{first_name, second_name, Outcome, prints, plans as plans_of, audits, refuses, IsRefusal, with_timed, with_platform, with_file, planned, priced, judged, judged_reading, check_of_file, most_plan_bytes, audit_of_file, work_of}
 use Rattle.steady_top.specs.Answers.{MayBe, ComesTo, IsMade, Opens, IsRefusedFor, IsSecondFault, IsCauseFor}
-use Rattle.steady_top.specs.Planned.{IsPlatformRead, IsFileFault, IsPlatformFault, IsCertificateRead, IsCertificateFault, IsProved, IsJudged, IsPlanRead, IsPlanFault, IsAuditFault}
+use Rattle.steady_top.specs.Planned.{IsPlatformRead, IsFileFault, IsPlatformFault, MayRefuse, IsBestPlan, IsBestPrices, IsCertificateRead, IsCertificateFault, IsProved, IsJudged, IsChecked, IsPlanRead, IsPlanFault, IsAuditFault, IsAudited, IsUnaudited}
 
 -- the bytes that were read may be what is told
 pub read_may_be : (told : Told) (bytes : List ℕ) → MayHold told bytes → MayBe told (Some bytes)
@@ -49,14 +49,14 @@ longer untold most h = (replicate (suc most) 0, tt, more_zeros most)
 longer absent most h = absurd h
 longer (contents file) most h = (file, refl, h)
 
-pub longer_is_refused : (next : TimedView → Outcome) (bytes : List ℕ) → most_bytes < length bytes → with_file next bytes ≡ refuses (refused (limit Text (most_bytes + 1)))
+pub longer_is_refused : (next : TimedView → Outcome) (bytes : List ℕ) → most_bytes < length bytes → with_file next bytes ≡ refuses (refused (no_platform (fault.Limit Text (most_bytes + 1))))
 longer_is_refused next bytes h = rw (lt-ltb most_bytes (length bytes) h) refl
 
 pub whole_is_read : (next : TimedView → Outcome) (bytes : List ℕ) (read : Result PlatformView PlatformFault) → length bytes ≤ most_bytes → platform_of bytes ≡ read →
     with_file next bytes ≡ with_platform next read
 whole_is_read next bytes read h is =
     let short : nat_lt most_bytes (length bytes) ≡ false = le-ltb most_bytes (length bytes) h in
-    ap (λ long. cond long (refuses (refused (limit Text (most_bytes + 1)))) (with_platform next (platform_of bytes))) short ∙ ap (with_platform next) is
+    ap (λ long. cond long (refuses (refused (no_platform (fault.Limit Text (most_bytes + 1))))) (with_platform next (platform_of bytes))) short ∙ ap (with_platform next) is
 
 pub read_is_next : (next : TimedView → Outcome) (bytes : List ℕ) (p : PlatformView) (t : TimedView) → length bytes ≤ most_bytes → platform_of bytes ≡ Ok p → timed_of p ≡ Ok t →
     with_file next bytes ≡ next t
@@ -70,16 +70,16 @@ module _ (before after : FilesView) (name bytes : List ℕ) (file : MayBe (befor
       rw (is ∙ named) (record { bytes = bytes; file = file; outcome = λ next. whole_is_read next bytes (Err fault) short read ∙ ap refuses named })
 
   pub fault_is_platform : (fault : PlatformFault) (refusal : Refusal) → IsFaultOf fault (platform_of bytes) → refusal ≡ platform_refusal fault → IsPlatformFault before name after refusal
-  fault_is_platform (fault.Limit kind found) refusal read is = for_reason (fault.Limit kind found) refusal (limit kind found) read is refl
-  fault_is_platform fault.NotToml refusal read is = for_reason fault.NotToml refusal not_toml read is refl
-  fault_is_platform (fault.BadField place) refusal read is = for_reason (fault.BadField place) refusal (bad_field place) read is refl
-  fault_is_platform (fault.TwiceNamed node) refusal read is = for_reason (fault.TwiceNamed node) refusal (twice_named node) read is refl
-  fault_is_platform (fault.Unknown place) refusal read is = for_reason (fault.Unknown place) refusal (unknown place) read is refl
-  fault_is_platform (fault.TargetIsMaster target) refusal read is = for_reason (fault.TargetIsMaster target) refusal (target_is_master target) read is refl
-  fault_is_platform (fault.TargetTwice target) refusal read is = for_reason (fault.TargetTwice target) refusal (target_twice target) read is refl
-  fault_is_platform (fault.SelfLink link) refusal read is = for_reason (fault.SelfLink link) refusal (self_link link) read is refl
-  fault_is_platform (fault.TwiceLinked link) refusal read is = for_reason (fault.TwiceLinked link) refusal (twice_linked link) read is refl
-  fault_is_platform (fault.BadRatio place cause) refusal read is = for_reason (fault.BadRatio place cause) refusal (bad_ratio place cause) read is refl
+  fault_is_platform (fault.Limit kind found) refusal read is = for_reason (fault.Limit kind found) refusal (no_platform (fault.Limit kind found)) read is refl
+  fault_is_platform fault.NotToml refusal read is = for_reason fault.NotToml refusal (no_platform fault.NotToml) read is refl
+  fault_is_platform (fault.BadField place) refusal read is = for_reason (fault.BadField place) refusal (no_platform (fault.BadField place)) read is refl
+  fault_is_platform (fault.TwiceNamed node) refusal read is = for_reason (fault.TwiceNamed node) refusal (no_platform (fault.TwiceNamed node)) read is refl
+  fault_is_platform (fault.Unknown place) refusal read is = for_reason (fault.Unknown place) refusal (no_platform (fault.Unknown place)) read is refl
+  fault_is_platform (fault.TargetIsMaster target) refusal read is = for_reason (fault.TargetIsMaster target) refusal (no_platform (fault.TargetIsMaster target)) read is refl
+  fault_is_platform (fault.TargetTwice target) refusal read is = for_reason (fault.TargetTwice target) refusal (no_platform (fault.TargetTwice target)) read is refl
+  fault_is_platform (fault.SelfLink link) refusal read is = for_reason (fault.SelfLink link) refusal (no_platform (fault.SelfLink link)) read is refl
+  fault_is_platform (fault.TwiceLinked link) refusal read is = for_reason (fault.TwiceLinked link) refusal (no_platform (fault.TwiceLinked link)) read is refl
+  fault_is_platform (fault.BadRatio place cause) refusal read is = for_reason (fault.BadRatio place cause) refusal (no_platform (fault.BadRatio place cause)) read is refl
   fault_is_platform fault.NoMemory refusal read is = rw is tt
 
   pub fault_is_timed : (p : PlatformView) (fault : TimedFault) (refusal : Refusal) → platform_of bytes ≡ Ok p → IsTimedFault fault (timed_of p) → refusal ≡ timed_refusal fault →
@@ -128,51 +128,44 @@ platform_fault command before after (cannot_read named) fault =
     inl (record { is_first = fault.same; cause = subst (λ name. HasCause before name after) (sym fault.same) fault.cause; one_open = fault.one_open })
 platform_fault command before after no_memory fault = tt
 
--- a fault of the planner is why the command is refused
-refused_for : (command : Command) (before middle after : FilesView) (t : TimedView) (second : Option (List ℕ)) → IsPlatformRead before (first_name command) middle t → MayBe (before.held (second_name command)) second →
-    (fault : PlanFault) (refusal : Refusal) → ((fault ≡ plans.NoMemory → ⊥) → work_of command second t ≡ refuses (plan_refusal fault)) → refusal ≡ plan_refusal fault → IsCauseFor command before after refusal
-refused_for command before middle after t second read told (plans.Pivot pivots row column) refusal exact is =
-    rw is (refused_for_reason command before (pivot pivots row column) (comes_of command before middle t second (refuses (refused (pivot pivots row column))) read told (exact (λ e. cc))))
-refused_for command before middle after t second read told (plans.Spent allowed) refusal exact is =
-    rw is (refused_for_reason command before (spent allowed) (comes_of command before middle t second (refuses (refused (spent allowed))) read told (exact (λ e. cc))))
-refused_for command before middle after t second read told (plans.Period step left right) refusal exact is =
-    rw is (refused_for_reason command before (period step left right) (comes_of command before middle t second (refuses (refused (period step left right))) read told (exact (λ e. cc))))
-refused_for command before middle after t second read told plans.NoMemory refusal exact is = rw is tt
+-- a fault of the planner is why an outcome refuses
+pub planner_refuses : (outcome : Outcome) (fault : PlanFault) (refusal : Refusal) → ((fault ≡ plans.NoMemory → ⊥) → outcome ≡ refuses (plan_refusal fault)) → refusal ≡ plan_refusal fault → MayRefuse outcome refusal
+planner_refuses outcome (plans.Pivot pivots row column) refusal exact is = rw is (exact (λ e. cc))
+planner_refuses outcome (plans.Spent allowed) refusal exact is = rw is (exact (λ e. cc))
+planner_refuses outcome (plans.Period step left right) refusal exact is = rw is (exact (λ e. cc))
+planner_refuses outcome plans.NoMemory refusal exact is = rw is tt
 
--- why there are no prices is why the command is refused
-pub prices_fault : (before middle after : FilesView) (name : List ℕ) (series : Series) (most : ℕ) (t : TimedView) → IsPlatformRead before name middle t → (fault : PlanFault) (refusal : Refusal) →
-    ((fault ≡ plans.NoMemory → ⊥) → prices_of most t ≡ Some (Err fault)) → refusal ≡ plan_refusal fault → IsCauseFor (prices name series most) before after refusal
-prices_fault before middle after name series most t read fault refusal exact is =
-    refused_for (prices name series most) before middle after t (Some read.platform.bytes) read read.platform.file fault refusal (λ some. ap priced (exact some)) is
-
--- why there is no plan is why the command is refused
-pub plan_fault : (before middle after : FilesView) (name : List ℕ) (series : Series) (most : ℕ) (t : TimedView) → IsPlatformRead before name middle t → (fault : PlanFault) (refusal : Refusal) →
-    ((fault ≡ plans.NoMemory → ⊥) → fault_of most t ≡ Some fault) → refusal ≡ plan_refusal fault → IsCauseFor (plan name series most) before after refusal
-plan_fault before middle after name series most t read fault refusal exact is =
-    refused_for (plan name series most) before middle after t (Some read.platform.bytes) read read.platform.file fault refusal (λ some. ap (planned most t) (exact some)) is
+-- what the work on a platform that was read refuses is why the command is refused
+pub refused_is_cause : (command : Command) (before middle after : FilesView) (t : TimedView) (second : Option (List ℕ)) → IsPlatformRead before (first_name command) middle t → MayBe (before.held (second_name command)) second →
+    (refusal : Refusal) → MayRefuse (work_of command second t) refusal → IsCauseFor command before after refusal
+refused_is_cause command before middle after t second read told usage is = absurd is
+refused_is_cause command before middle after t second read told (refused reason) is =
+    refused_for_reason command before reason (comes_of command before middle t second (refuses (refused reason)) read told is)
+refused_is_cause command before middle after t second read told (cannot_read name) is = absurd is
+refused_is_cause command before middle after t second read told no_memory is = tt
 
 -- a plan that is found is what the command prints
-pub planned_is_made : (before after : FilesView) (name : List ℕ) (series : Series) (most : ℕ) (t : TimedView) (found : Plan) (text : List ℕ) → IsPlatformRead before name after t → IsPlan most t found → IsBest t Tasking found.table →
-    text ≡ plan_text t Tasking found.table → IsMade (plan name series most) before after text
-planned_is_made before after name series most t found text read made best is = record {
+pub planned_is_made : (before after : FilesView) (name : List ℕ) (series : Series) (most : ℕ) (t : TimedView) (text : List ℕ) → IsPlatformRead before name after t → IsBestPlan most t text →
+    IsMade (plan name series most) before after text
+planned_is_made before after name series most t text read found = record {
   outcome = plans_of most t;
   comes = comes_of (plan name series most) before after t (Some read.platform.bytes) (plans_of most t) read read.platform.file (ap (planned most t) none);
-  due = record { plan = found; is = made; is_text = is };
-  claim = record { timed = t; platform = read.platform; plan = found; made = made; best = best; is_plan = is };
+  due = record { plan = found.plan; is = found.made; is_text = found.is_plan };
+  claim = record { timed = t; platform = read.platform; plan = found.plan; made = found.made; best = found.best; is_plan = found.is_plan };
   calm = read.calm;
 }
   where
     none : fault_of most t ≡ None
-    none = ap (option_and_then (fault_of_answer t)) made.solved ∙ ap fault_of_scale made.made.scaled
+    none = ap (option_and_then (fault_of_answer t)) found.made.solved ∙ ap fault_of_scale found.made.made.scaled
 
 -- prices that are found are what the command prints
-pub priced_is_made : (before after : FilesView) (name : List ℕ) (series : Series) (most : ℕ) (t : TimedView) (c : CertificateView) (text : List ℕ) → IsPlatformRead before name after t → prices_of most t ≡ Some (Ok c) → IsBestCertificate t c →
-    IsUpperRate t Tasking (nat_abs c.best * t.unit) (nat_abs c.scale) → text ≡ certificate_text Tasking c → IsMade (prices name series most) before after text
-priced_is_made before after name series most t c text read run best rate is = record {
+pub priced_is_made : (before after : FilesView) (name : List ℕ) (series : Series) (most : ℕ) (t : TimedView) (text : List ℕ) → IsPlatformRead before name after t → IsBestPrices most t text →
+    IsMade (prices name series most) before after text
+priced_is_made before after name series most t text read found = record {
   outcome = prints text;
-  comes = comes_of (prices name series most) before after t (Some read.platform.bytes) (prints text) read read.platform.file (ap priced run ∙ ap prints (sym is));
+  comes = comes_of (prices name series most) before after t (Some read.platform.bytes) (prints text) read read.platform.file (ap priced found.run ∙ ap prints (sym found.is_certificate));
   due = refl;
-  claim = record { timed = t; platform = read.platform; certificate = c; run = run; best = best; rate = rate; is_certificate = is };
+  claim = record { timed = t; platform = read.platform; certificate = found.certificate; run = found.run; best = found.best; rate = found.rate; is_certificate = found.is_certificate };
   calm = read.calm;
 }
 
@@ -204,70 +197,88 @@ certificate_fault before middle after name second series t read (cannot_read nam
 certificate_fault before middle after name second series t read no_memory fault = tt
 
 -- what the check of a certificate that was read says is what the command comes to
-module _ (before middle after : FilesView) (name second : List ℕ) (series : Series) (t : TimedView) (c : CertificateView) (read : IsPlatformRead before name middle t) (certificate : IsCertificateRead t middle second after c) where
-  comes_to : (outcome : Outcome) → judged_reading t (Ok c) ≡ outcome → ComesTo (check name second series) before outcome
-  comes_to outcome is =
-      comes_of (check name second series) before middle t (Some certificate.bytes) outcome read (told_before before middle name t second (Some certificate.bytes) read certificate.file) (certificate.short ∙ is)
+pub checked_is_made : (before middle after : FilesView) (name second : List ℕ) (series : Series) (t : TimedView) → IsPlatformRead before name middle t → (text : List ℕ) → IsChecked t middle second after text →
+    IsMade (check name second series) before after text
+checked_is_made before middle after name second series t read text checked = record {
+  outcome = prints text;
+  comes = comes_of (check name second series) before middle t (Some certificate.bytes) (prints text) read file (certificate.short ∙ ap (judged t checked.certificate) proved.proves ∙ ap prints (sym proved.is_line));
+  due = refl;
+  claim = record {
+    timed = t;
+    platform = read.platform;
+    bytes = certificate.bytes;
+    file = file;
+    certificate = checked.certificate;
+    read = certificate.read;
+    proves = proved.proves;
+    rate = proved.rate;
+    is_line = proved.is_line;
+  };
+  calm = certificate.calm ∙ read.calm;
+}
+  where
+    certificate : IsCertificateRead t middle second after checked.certificate
+    certificate = checked.read
 
-  pub proved_is_made : (text : List ℕ) → IsProved t c text → IsMade (check name second series) before after text
-  proved_is_made text proved = record {
-    outcome = prints text;
-    comes = comes_to (prints text) (ap (judged t c) proved.proves ∙ ap prints (sym proved.is_line));
-    due = refl;
-    claim = record {
-      timed = t;
-      platform = read.platform;
-      bytes = certificate.bytes;
-      file = told_before before middle name t second (Some certificate.bytes) read certificate.file;
-      certificate = c;
-      read = certificate.read;
-      proves = proved.proves;
-      rate = proved.rate;
-      is_line = proved.is_line;
-    };
-    calm = certificate.calm ∙ read.calm;
-  }
+    proved : IsProved t checked.certificate text
+    proved = checked.proved
 
-  pub judged_is_cause : (refusal : Refusal) → IsJudged t c refusal → IsCauseFor (check name second series) before after refusal
-  judged_is_cause usage fault = absurd fault
-  judged_is_cause (refused reason) fault = refused_for_reason (check name second series) before reason (comes_to (refuses (refused reason)) fault)
-  judged_is_cause (cannot_read named) fault = absurd fault
-  judged_is_cause no_memory fault = tt
+    file : MayBe (before.held second) (Some certificate.bytes)
+    file = told_before before middle name t second (Some certificate.bytes) read certificate.file
 
--- why a plan's file isn't read is why the command is refused
-pub audit_fault : (before middle after : FilesView) (name second : List ℕ) (periods : ℕ) (t : TimedView) → IsPlatformRead before name middle t → (refusal : Refusal) →
-    IsPlanFault t periods middle second after refusal → IsCauseFor (audit name second periods) before after refusal
-audit_fault before middle after name second periods t read usage fault = absurd fault
-audit_fault before middle after name second periods t read (refused reason) fault =
-    refused_for_reason (audit name second periods) before reason
-    (comes_of (audit name second periods) before middle t (Some fault.bytes) (refuses (refused reason)) read (told_before before middle name t second (Some fault.bytes) read fault.file) fault.outcome)
-audit_fault before middle after name second periods t read (cannot_read named) fault = inr (second_fault (audit name second periods) before middle after name second named t read (refl, sym fault.same) fault)
-audit_fault before middle after name second periods t read no_memory fault = tt
+-- a certificate that is refused is why its file is
+pub judged_is_fault : (t : TimedView) (before after : FilesView) (name : List ℕ) (c : CertificateView) → IsCertificateRead t before name after c → (refusal : Refusal) → IsJudged t c refusal →
+    IsCertificateFault t before name after refusal
+judged_is_fault t before after name c read usage is = absurd is
+judged_is_fault t before after name c read (refused reason) is = record { bytes = read.bytes; file = read.file; outcome = read.short ∙ is }
+judged_is_fault t before after name c read (cannot_read named) is = absurd is
+judged_is_fault t before after name c read no_memory is = tt
 
--- what the audit of a plan that was read says is what the command comes to
-module _ (before middle after : FilesView) (name second : List ℕ) (periods : ℕ) (t : TimedView) (bytes : List ℕ) (timed : IsTimed t) (read : IsPlatformRead before name middle t)
-    (plan_read : IsPlanRead t periods middle second after bytes) where
-  audit_comes : ComesTo (audit name second periods) before (audits periods t bytes)
-  audit_comes = comes_of (audit name second periods) before middle t (Some bytes) (audits periods t bytes) read (told_before before middle name t second (Some bytes) read plan_read.file) plan_read.short
+-- why a plan's file isn't read is why it isn't audited
+pub unread_is_unaudited : (t : TimedView) (periods : ℕ) (before after : FilesView) (name : List ℕ) (refusal : Refusal) → IsPlanFault t periods before name after refusal → IsUnaudited t periods before name after refusal
+unread_is_unaudited t periods before after name usage fault = absurd fault
+unread_is_unaudited t periods before after name (refused reason) fault =
+    record { bytes = fault.bytes; file = fault.file; refusal = subst (λ o. IsRefusal o (refused reason)) (sym fault.outcome) refl }
+unread_is_unaudited t periods before after name (cannot_read named) fault = fault
+unread_is_unaudited t periods before after name no_memory fault = tt
 
-  pub audited_is_made : (text : List ℕ) → IsAudit periods t bytes text → IsMade (audit name second periods) before after text
-  audited_is_made text audited = record {
-    outcome = audits periods t bytes;
-    comes = audit_comes;
-    due = audited;
-    claim = record { timed = t; platform = read.platform; bytes = bytes; file = told_before before middle name t second (Some bytes) read plan_read.file; audit = audited };
-    calm = plan_read.calm ∙ read.calm;
-  }
+-- a plan that is refused is why its file is
+pub unsound_is_unaudited : (t : TimedView) (periods : ℕ) (before after : FilesView) (name bytes : List ℕ) → IsTimed t → IsPlanRead t periods before name after bytes → (refusal : Refusal) →
+    IsAuditFault periods t bytes refusal → IsUnaudited t periods before name after refusal
+unsound_is_unaudited t periods before after name bytes timed read usage fault = absurd fault
+unsound_is_unaudited t periods before after name bytes timed read (refused reason) fault = record {
+  bytes = bytes;
+  file = read.file;
+  refusal = subst (λ o. IsRefusal o (refused reason)) (sym read.short) (record { timed = timed; small = omega (arith, read.size); reasoned = fault });
+}
+unsound_is_unaudited t periods before after name bytes timed read (cannot_read named) fault = absurd fault
+unsound_is_unaudited t periods before after name bytes timed read no_memory fault = tt
 
-  pub audited_is_cause : (refusal : Refusal) → IsAuditFault periods t bytes refusal → IsCauseFor (audit name second periods) before after refusal
-  audited_is_cause usage fault = absurd fault
-  audited_is_cause (refused reason) fault = record {
-    outcome = audits periods t bytes;
-    comes = audit_comes;
-    refusal = record { timed = timed; small = omega (arith, plan_read.size); reasoned = fault };
-  }
-  audited_is_cause (cannot_read named) fault = absurd fault
-  audited_is_cause no_memory fault = tt
+-- what the audit of a plan's file says is what the command comes to
+pub audited_is_made : (before middle after : FilesView) (name second : List ℕ) (periods : ℕ) (t : TimedView) → IsPlatformRead before name middle t → (text : List ℕ) → IsAudited t periods middle second after text →
+    IsMade (audit name second periods) before after text
+audited_is_made before middle after name second periods t read text audited = record {
+  outcome = audits periods t audited.bytes;
+  comes = comes_of (audit name second periods) before middle t (Some audited.bytes) (audits periods t audited.bytes) read file audited.read.short;
+  due = audited.audit;
+  claim = record { timed = t; platform = read.platform; bytes = audited.bytes; file = file; audit = audited.audit };
+  calm = audited.read.calm ∙ read.calm;
+}
+  where
+    file : MayBe (before.held second) (Some audited.bytes)
+    file = told_before before middle name t second (Some audited.bytes) read audited.read.file
+
+-- why a plan's file isn't audited is why the command is refused
+pub unaudited_is_cause : (before middle after : FilesView) (name second : List ℕ) (periods : ℕ) (t : TimedView) → IsPlatformRead before name middle t → (refusal : Refusal) →
+    IsUnaudited t periods middle second after refusal → IsCauseFor (audit name second periods) before after refusal
+unaudited_is_cause before middle after name second periods t read usage fault = absurd fault
+unaudited_is_cause before middle after name second periods t read (refused reason) fault = record {
+  outcome = audit_of_file periods t fault.bytes;
+  comes = comes_of (audit name second periods) before middle t (Some fault.bytes) (audit_of_file periods t fault.bytes) read (told_before before middle name t second (Some fault.bytes) read fault.file) refl;
+  refusal = fault.refusal;
+}
+unaudited_is_cause before middle after name second periods t read (cannot_read named) fault = inr (second_fault (audit name second periods) before middle after name second named t read (refl, sym fault.same) fault)
+unaudited_is_cause before middle after name second periods t read no_memory fault = tt
 
 -- what holds of an error holds of the result that has it
 pub of_error : {A E : Type 0} (P : A → Type 0) {Q R : E → Type 0} (r : Result A E) → IsErr r → IsErrAnd r R → ((e : E) → R e → Q e) → MatchResult r P Q

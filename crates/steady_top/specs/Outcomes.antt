@@ -3,6 +3,7 @@ use Rattle.std.specs.Prelude.{◌≡◌, ℕ, ◌+◌, cond, List, ◌++◌, len
 use Rattle.std.specs.Fmt.{signed_decimal}
 use Rattle.command_words.specs.Words.{Command, plan, prices, check, audit, command_of}
 use Rattle.platform_file.specs.declared.fault.PlatformFault.{PlatformFault}
+use Rattle.platform_file.specs.declared.fault.PlatformFault.TheVariants.{Limit}
 use Rattle.platform_file.specs.declared.fault.Kind.TheVariants.{Text}
 use Rattle.platform_file.specs.Platform.{PlatformView}
 use Rattle.platform_file.specs.declared.fault.TimedFault.{TimedFault}
@@ -25,7 +26,7 @@ use Rattle.planner.specs.Plans.{fault_of, IsPlan}
 use Rattle.text_lines.specs.Lines.{line}
 use Rattle.plan_text.specs.Texts.{plan_text}
 use Rattle.steady_top.specs.Audits.{IsAudit, IsSound, IsUnsound}
-use Rattle.steady_top.specs.Refusals.{Refusal, usage, refused, limit, long_certificate, certificate_line, negative_price, uncovered_column, passed_value, check_overflow, long_plan, cannot_read, no_memory, platform_refusal, timed_refusal, plan_refusal}
+use Rattle.steady_top.specs.Refusals.{Refusal, usage, refused, no_platform, long_certificate, certificate_line, negative_price, uncovered_column, passed_value, check_overflow, long_plan, cannot_read, no_memory, platform_refusal, timed_refusal, plan_refusal}
 
 -- the file that a command opens first
 abbrev pub first_name : Command → List ℕ
@@ -61,7 +62,7 @@ with_platform next (Ok p) = with_timed next (timed_of p)
 
 -- what comes of the bytes of a platform file; of a longer one no more is read than one byte past the limit
 abbrev pub with_file : (TimedView → Outcome) → List ℕ → Outcome
-with_file next bytes = cond (nat_lt most_bytes (length bytes)) (refuses (refused (limit Text (most_bytes + 1)))) (with_platform next (platform_of bytes))
+with_file next bytes = cond (nat_lt most_bytes (length bytes)) (refuses (refused (no_platform (Limit Text (most_bytes + 1))))) (with_platform next (platform_of bytes))
 
 -- what comes of what the files hold under the name of a platform file, if there is such a file
 abbrev pub with_name : (TimedView → Outcome) → List ℕ → Option (List ℕ) → Outcome

@@ -8,16 +8,22 @@ use Rattle.schedule_model.specs.Throughput.{IsUpperRate}
 use Rattle.linear_program.specs.Certificates.{CertificateView}
 use Rattle.tasking_program.specs.Programme.{tasking_programme}
 use Rattle.dual_checker.specs.Reading.{certificate_of}
+use Rattle.dual_checker.specs.Texts.{certificate_text}
 use Rattle.dual_checker.specs.Verdicts.{verdict_of}
 use Rattle.dual_checker.specs.declared.verdict.Verdict.TheVariants.{Proves}
+use Rattle.planner.specs.declared.planned.Plan.{Plan}
+use Rattle.planner.specs.Plans.{IsPlan}
+use Rattle.planner.specs.Prices.{prices_of, IsBestCertificate}
+use Rattle.plan_text.specs.Texts.{plan_text}
+use Rattle.period_table.specs.Best.{IsBest}
 use Rattle.steady_top.specs.Refusals.{Reason, Refusal, usage, refused, cannot_read, no_memory}
-use Rattle.steady_top.specs.Outcomes.{Outcome, audits, refuses, with_file, judged_reading, check_of_file, upper_text, most_plan_bytes, audit_of_file}
+use Rattle.steady_top.specs.Outcomes.{Outcome, audits, refuses, IsRefusal, with_file, judged_reading, check_of_file, upper_text, most_plan_bytes, audit_of_file}
 use Rattle.schedule_model.specs.declared.schedule.Series.{Series}
 use Rattle.schedule_model.specs.declared.schedule.Schedule.{Schedule}
 use Rattle.period_table.specs.declared.table.Table.{Table}
 use Rattle.period_table.specs.TableSchedules.{ops_below, table_schedule}
 use Rattle.plan_text.specs.Reading.{IsPlanOf}
-use Rattle.steady_top.specs.Audits.{most_operations, IsReason}
+use Rattle.steady_top.specs.Audits.{most_operations, IsReason, IsAudit}
 use Rattle.steady_top.specs.Answers.{MayBe, IsPlatformOf}
 
 -- the platform of the file was read and brought into ticks, in one open
@@ -74,12 +80,37 @@ pub record IsProved (t : TimedView) (c : CertificateView) (text : List ℕ) : Ty
   pub rate : IsUpperRate t Tasking (nat_abs c.best * t.unit) (nat_abs c.scale)
   pub is_line : text ≡ upper_text t c
 
--- the certificate is refused so; want of memory may come at any time
+-- the outcome refuses so; want of memory may come at any time
+abbrev pub MayRefuse : Outcome → Refusal → Type 0
+MayRefuse outcome no_memory = Unit {0}
+MayRefuse outcome usage = ⊥
+MayRefuse outcome (cannot_read name) = ⊥
+MayRefuse outcome (refused reason) = outcome ≡ refuses (refused reason)
+
+-- the certificate is refused so
 abbrev pub IsJudged : TimedView → CertificateView → Refusal → Type 0
-IsJudged t c no_memory = Unit {0}
-IsJudged t c usage = ⊥
-IsJudged t c (cannot_read name) = ⊥
-IsJudged t c (refused reason) = judged_reading t (Ok c) ≡ refuses (refused reason)
+IsJudged t c refusal = MayRefuse (judged_reading t (Ok c)) refusal
+
+-- the certificate of the file was read and proves, and the text says what
+pub record IsChecked (t : TimedView) (before : FilesView) (name : List ℕ) (after : FilesView) (text : List ℕ) : Type 0 where
+  pub certificate : CertificateView
+  pub read : IsCertificateRead t before name after certificate
+  pub proved : IsProved t certificate text
+
+-- the text is that of a plan of the platform, whose table is best
+pub record IsBestPlan (pivots : ℕ) (t : TimedView) (text : List ℕ) : Type 0 where
+  pub plan : Plan
+  pub made : IsPlan pivots t plan
+  pub best : IsBest t Tasking plan.table
+  pub is_plan : text ≡ plan_text t Tasking plan.table
+
+-- the text is the certificate of the platform's best rate, which no schedule exceeds
+pub record IsBestPrices (pivots : ℕ) (t : TimedView) (text : List ℕ) : Type 0 where
+  pub certificate : CertificateView
+  pub run : prices_of pivots t ≡ Some (Ok certificate)
+  pub best : IsBestCertificate t certificate
+  pub rate : IsUpperRate t Tasking (nat_abs certificate.best * t.unit) (nat_abs certificate.scale)
+  pub is_certificate : text ≡ certificate_text Tasking certificate
 
 -- the bytes of a plan's file were read
 pub record IsPlanRead (t : TimedView) (periods : ℕ) (before : FilesView) (name : List ℕ) (after : FilesView) (bytes : List ℕ) : Type 0 where
@@ -114,3 +145,22 @@ IsAuditFault periods t bytes no_memory = Unit {0}
 IsAuditFault periods t bytes usage = ⊥
 IsAuditFault periods t bytes (cannot_read name) = ⊥
 IsAuditFault periods t bytes (refused reason) = IsReason periods t bytes reason
+
+-- the plan of the file was read, and the text has its numbers
+pub record IsAudited (t : TimedView) (periods : ℕ) (before : FilesView) (name : List ℕ) (after : FilesView) (text : List ℕ) : Type 0 where
+  pub bytes : List ℕ
+  pub read : IsPlanRead t periods before name after bytes
+  pub audit : IsAudit periods t bytes text
+
+-- what was read of a plan's file, or its schedule, is refused
+pub record IsAuditRefused (t : TimedView) (periods : ℕ) (before : FilesView) (name : List ℕ) (reason : Reason) : Type 0 where
+  pub bytes : List ℕ
+  pub file : MayBe (before.held name) (Some bytes)
+  pub refusal : IsRefusal (audit_of_file periods t bytes) (refused reason)
+
+-- why a plan's file isn't audited
+abbrev pub IsUnaudited : TimedView → ℕ → FilesView → List ℕ → FilesView → Refusal → Type 0
+IsUnaudited t periods before name after (cannot_read named) = IsFileFault before name after named
+IsUnaudited t periods before name after no_memory = Unit {0}
+IsUnaudited t periods before name after usage = ⊥
+IsUnaudited t periods before name after (refused reason) = IsAuditRefused t periods before name reason

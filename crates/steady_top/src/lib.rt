@@ -8,6 +8,6 @@ mod status;
 mod tests;
 mod top;
 
-pub use fault::TopFault;
+pub use fault::{CheckFault, ReadingFault, TopFault};
 pub use status::Status;
 pub use top::{refuse, steady};

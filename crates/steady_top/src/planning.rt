@@ -7,18 +7,18 @@ ghost use Rattle.tasking_program.specs.Programme.{tasking_programme};
 ghost use Rattle.steady_top.specs.Faults.{refusal_of};
 ghost use Rattle.command_words.specs.Words.{plan, prices, check, audit};
 ghost use Rattle.steady_top.specs.Audits.{audit_text, IsAudit};
-ghost use Rattle.steady_top.specs.Outcomes.{upper_text};
+ghost use Rattle.steady_top.specs.Outcomes.{plan_of, certificate_for, upper_text};
 ghost use Rattle.steady_top.specs.Answers.{IsMade, IsCauseFor};
-ghost use Rattle.steady_top.specs.Planned.{IsPlatformRead, IsPlatformFault, IsCertificateRead, IsCertificateFault, IsProved, IsJudged, IsPlanRead, IsPlanFault, IsScheduleOf, IsAuditFault};
+ghost use Rattle.steady_top.specs.Planned.{IsPlatformRead, IsPlatformFault, IsBestPlan, IsBestPrices, MayRefuse, IsCertificateRead, IsCertificateFault, IsProved, IsJudged, IsChecked, IsPlanRead, IsPlanFault, IsScheduleOf, IsAuditFault, IsAudited, IsUnaudited};
 
-use crate::fault::TopFault;
+use crate::fault::{CheckFault, ReadingFault, TopFault};
 use dual_checker::{CertificateFault, Verdict, print_certificate, read_certificate};
 use linear_program::{Certificate, Lp};
 use listed::NoMemory;
 use outside_io::{Files, ReadEnd, read_whole};
 use period_table::{UnrollFault, unroll};
 use plan_text::{PlanTextFault, print_plan, read_plan};
-use platform_file::{Kind, MOST_BYTES, Timed, read_platform, timed};
+use platform_file::{Kind, MOST_BYTES, PlatformFault, Timed, read_platform, timed};
 use schedule_model::{Schedule, Series, check_schedule};
 use std::alloc::Global;
 use tasking_program::tasking_lp;
@@ -40,11 +40,28 @@ fn read_timed<'a, F: Files>(
     let bytes = match read_whole(alloc, files, name, MOST_BYTES) {
         Ok(bytes) => bytes,
         Err(ReadEnd::Failed) => return Err(TopFault::CannotRead(name)),
-        Err(ReadEnd::Longer) => return Err(TopFault::Limit(Kind::Text, MOST_BYTES + 1)),
+        Err(ReadEnd::Longer) => return Err(TopFault::Platform(PlatformFault::Limit(
+            Kind::Text,
+            MOST_BYTES + 1,
+        ))),
         Err(ReadEnd::NoMemory) => return Err(TopFault::NoMemory),
     };
     let platform = read_platform(alloc, &bytes)?;
     Ok(timed(alloc, platform)?)
+}
+
+/// The plan text of a platform.
+fn plan_of<'a>(
+    alloc: Global,
+    timed: &Timed,
+    series: Series,
+    pivots: u64,
+) -> Result<String, TopFault<'a>>
+    ensures { MatchResult result (λ text. IsBestPlan pivots timed.now (string_bytes text)) (λ fault. MayRefuse (plan_of pivots timed.now) (refusal_of fault)) }
+{
+    let _ = series;
+    let plan = planner::plan(alloc, timed, Series::Tasking, pivots)?;
+    Ok(print_plan(alloc, timed, Series::Tasking, &plan.table)?)
 }
 
 /// The plan text of the platform in the named file.
@@ -57,10 +74,22 @@ pub fn plan<'a, F: Files>(
 ) -> Result<String, TopFault<'a>>
     ensures { MatchResult result (λ text. IsMade (plan name.now series pivots) (F.state files.old) (F.state files.new) (string_bytes text)) (λ fault. IsCauseFor (plan name.now series pivots) (F.state files.old) (F.state files.new) (refusal_of fault)) }
 {
-    let _ = series;
     let timed = read_timed(alloc, files, name)?;
-    let plan = planner::plan(alloc, &timed, Series::Tasking, pivots)?;
-    Ok(print_plan(alloc, &timed, Series::Tasking, &plan.table)?)
+    plan_of(alloc, &timed, series, pivots)
+}
+
+/// The certificate of the best rate of a platform.
+fn prices_of<'a>(
+    alloc: Global,
+    timed: &Timed,
+    series: Series,
+    pivots: u64,
+) -> Result<String, TopFault<'a>>
+    ensures { MatchResult result (λ text. IsBestPrices pivots timed.now (string_bytes text)) (λ fault. MayRefuse (certificate_for pivots timed.now) (refusal_of fault)) }
+{
+    let _ = series;
+    let certificate = planner::prices(alloc, timed, Series::Tasking, pivots)?;
+    Ok(print_certificate(alloc, Series::Tasking, &certificate)?)
 }
 
 /// The certificate of the best rate of the platform in the named file.
@@ -73,10 +102,8 @@ pub fn prices<'a, F: Files>(
 ) -> Result<String, TopFault<'a>>
     ensures { MatchResult result (λ text. IsMade (prices name.now series pivots) (F.state files.old) (F.state files.new) (string_bytes text)) (λ fault. IsCauseFor (prices name.now series pivots) (F.state files.old) (F.state files.new) (refusal_of fault)) }
 {
-    let _ = series;
     let timed = read_timed(alloc, files, name)?;
-    let certificate = planner::prices(alloc, &timed, Series::Tasking, pivots)?;
-    Ok(print_certificate(alloc, Series::Tasking, &certificate)?)
+    prices_of(alloc, &timed, series, pivots)
 }
 
 /// The certificate in the named file, for the programme of a platform.
@@ -95,12 +122,14 @@ fn read_named_certificate<'a, F: Files>(
     let bytes = match read_whole(alloc, files, name, MOST_CERTIFICATE_BYTES) {
         Ok(bytes) => bytes,
         Err(ReadEnd::Failed) => return Err(TopFault::CannotRead(name)),
-        Err(ReadEnd::Longer) => return Err(TopFault::LongCertificate),
+        Err(ReadEnd::Longer) => return Err(TopFault::Unread(ReadingFault::LongCertificate)),
         Err(ReadEnd::NoMemory) => return Err(TopFault::NoMemory),
     };
     match read_certificate(alloc, Series::Tasking, lp.rows().len() as u32, &bytes) {
         Ok(certificate) => Ok(certificate),
-        Err(CertificateFault::Line(number)) => Err(TopFault::CertificateLine(number)),
+        Err(CertificateFault::Line(number)) => Err(TopFault::Unread(ReadingFault::CertificateLine(
+            number,
+        ))),
         Err(CertificateFault::NoMemory) => Err(TopFault::NoMemory),
     }
 }
@@ -154,11 +183,39 @@ fn judge<'a>(
     timed.known();
     match dual_checker::check(lp, certificate) {
         Verdict::Proves => Ok(upper_line(alloc, timed, certificate)?),
-        Verdict::Negative(row) => Err(TopFault::NegativePrice(row)),
-        Verdict::Column(column) => Err(TopFault::UncoveredColumn(column)),
-        Verdict::Value => Err(TopFault::PassedValue),
-        Verdict::Overflow(column) => Err(TopFault::CheckOverflow(column)),
+        Verdict::Negative(row) => Err(TopFault::Unproved(CheckFault::NegativePrice(row))),
+        Verdict::Column(column) => Err(TopFault::Unproved(CheckFault::UncoveredColumn(column))),
+        Verdict::Value => Err(TopFault::Unproved(CheckFault::PassedValue)),
+        Verdict::Overflow(column) => Err(TopFault::Unproved(CheckFault::Overflow(column))),
     }
+}
+
+/// The rate that the certificate in the named file proves for the platform of a programme.
+fn check_named<'a, F: Files>(
+    alloc: Global,
+    files: &mut F,
+    name: &'a str,
+    timed: &Timed,
+    lp: &Lp,
+) -> Result<String, TopFault<'a>>
+    requires { lp.now ≡ tasking_programme timed.now }
+    ensures { MatchResult result (λ text. IsChecked timed.now (F.state files.old) name.now (F.state files.new) (string_bytes text)) (λ fault. IsCertificateFault timed.now (F.state files.old) name.now (F.state files.new) (refusal_of fault)) }
+{
+    let certificate = read_named_certificate(alloc, files, name, timed, lp)?;
+    judge(alloc, timed, lp, &certificate)
+}
+
+/// The rate that the certificate in the named file proves for a platform.
+fn check_over<'a, F: Files>(
+    alloc: Global,
+    files: &mut F,
+    name: &'a str,
+    timed: &Timed,
+) -> Result<String, TopFault<'a>>
+    ensures { MatchResult result (λ text. IsChecked timed.now (F.state files.old) name.now (F.state files.new) (string_bytes text)) (λ fault. IsCertificateFault timed.now (F.state files.old) name.now (F.state files.new) (refusal_of fault)) }
+{
+    let lp = tasking_lp(alloc, timed)?;
+    check_named(alloc, files, name, timed, &lp)
 }
 
 /// The rate that the certificate in the second file proves for the platform in the first.
@@ -173,9 +230,7 @@ pub fn check<'a, F: Files>(
 {
     let _ = series;
     let timed = read_timed(alloc, files, name)?;
-    let lp = tasking_lp(alloc, &timed)?;
-    let certificate = read_named_certificate(alloc, files, second, &timed, &lp)?;
-    judge(alloc, &timed, &lp, &certificate)
+    check_over(alloc, files, second, &timed)
 }
 
 /// The bytes of the plan in the named file.
@@ -191,7 +246,7 @@ fn read_named_plan<'a, F: Files>(
     match read_whole(alloc, files, name, MOST_PLAN_BYTES) {
         Ok(bytes) => Ok(bytes),
         Err(ReadEnd::Failed) => Err(TopFault::CannotRead(name)),
-        Err(ReadEnd::Longer) => Err(TopFault::LongPlan),
+        Err(ReadEnd::Longer) => Err(TopFault::Unread(ReadingFault::LongPlan)),
         Err(ReadEnd::NoMemory) => Err(TopFault::NoMemory),
     }
 }
@@ -243,12 +298,14 @@ fn schedule_in<'a>(
 {
     let (series, table) = match read_plan(alloc, timed, bytes) {
         Ok(found) => found,
-        Err(PlanTextFault::Line(number)) => return Err(TopFault::PlanLine(number)),
+        Err(PlanTextFault::Line(number)) => return Err(TopFault::Unread(ReadingFault::PlanLine(
+            number,
+        ))),
         Err(PlanTextFault::NoMemory) => return Err(TopFault::NoMemory),
     };
     match unroll(alloc, timed, series, &table, periods) {
         Ok(schedule) => Ok((series, schedule)),
-        Err(UnrollFault::TooLong) => Err(TopFault::LongOperations),
+        Err(UnrollFault::TooLong) => Err(TopFault::Unread(ReadingFault::LongSchedule)),
         Err(UnrollFault::NoMemory) => Err(TopFault::NoMemory),
     }
 }
@@ -266,8 +323,24 @@ fn audit_of<'a>(
     let (series, schedule) = schedule_in(alloc, timed, bytes, periods)?;
     match check_schedule(timed, series, &schedule) {
         Ok(count) => Ok(audit_line(alloc, periods, schedule.length, count)?),
-        Err(breach) => Err(TopFault::Breach(breach.index, breach.rule)),
+        Err(breach) => Err(TopFault::Breach(breach)),
     }
+}
+
+/// The numbers of the plan in the named file, for a platform, over some periods.
+fn audit_over<'a, F: Files>(
+    alloc: Global,
+    files: &mut F,
+    name: &'a str,
+    timed: &Timed,
+    periods: u64,
+) -> Result<String, TopFault<'a>>
+    requires { periods ≤ 1000000 }
+    ensures { MatchResult result (λ text. IsAudited timed.now periods (F.state files.old) name.now (F.state files.new) (string_bytes text)) (λ fault. IsUnaudited timed.now periods (F.state files.old) name.now (F.state files.new) (refusal_of fault)) }
+{
+    timed.known();
+    let bytes = read_named_plan(alloc, files, name, timed, periods)?;
+    audit_of(alloc, timed, &bytes, periods)
 }
 
 /// The numbers of the plan in the second file, for the platform in the first, over some periods.
@@ -282,7 +355,5 @@ pub fn audit<'a, F: Files>(
     ensures { MatchResult result (λ text. IsMade (audit name.now second.now periods) (F.state files.old) (F.state files.new) (string_bytes text)) (λ fault. IsCauseFor (audit name.now second.now periods) (F.state files.old) (F.state files.new) (refusal_of fault)) }
 {
     let timed = read_timed(alloc, files, name)?;
-    timed.known();
-    let bytes = read_named_plan(alloc, files, second, &timed, periods)?;
-    audit_of(alloc, &timed, &bytes, periods)
+    audit_over(alloc, files, second, &timed, periods)
 }

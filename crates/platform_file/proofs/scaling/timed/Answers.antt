@@ -7,5 +7,5 @@ overflow_cast-unit c = let short = is_short c.multiples_are_least.ensures c.args
 
 pub new-requires : goal.new-requires
 new-requires c =
-    rw (c.in_ok-times.ensures, c.in_ok-costs.ensures, c.nodes.ensures, c.links.ensures)
+    rw (c.in_ok-times.ensures.times, c.in_ok-times.ensures.costs)
     (is_timed c.multiples_are_least.ensures c.args.platform c.known.ensures c.in_ok-unit.field-0 (sym c.in_ok-unit.ensures))

@@ -2,7 +2,7 @@ use Rattle.std.proofs.Common.{string_bytes, sym, subst}
 use Rattle.steady_top.specs.Faults.{refusal_of}
 use Rattle.command_words.specs.Words.{audit}
 use Rattle.steady_top.specs.Answers.{IsMade, IsCauseFor}
-use Rattle.steady_top.proofs.Works.{platform_fault, audit_fault, of_error, audited_is_made, audited_is_cause, both_ways}
+use Rattle.steady_top.proofs.Works.{platform_fault, of_error, audited_is_made, unaudited_is_cause, both_ways}
 use Rattle.steady_top.proofs.planning.audit.Goals as goal
 
 pub returns-in_err-timed : goal.returns-in_err-timed
@@ -13,22 +13,11 @@ returns-in_err-timed g c =
     of_error (λ text. IsMade command before after (string_bytes text)) c.from_residual.result c.from_residual.ensures.0 c.from_residual.ensures.1
     (λ e is. subst (λ fault. IsCauseFor command before after (refusal_of fault)) (sym is) (platform_fault command before after (refusal_of c.in_err-timed.field-0.0) c.in_err-timed.ensures))
 
-pub returns-in_err-bytes : goal.returns-in_err-bytes
-returns-in_err-bytes g c =
-    let command = audit c.args.name.now c.args.second.now c.args.periods in
-    let before = g.F.Files.state c.args.files.now in
-    let middle = g.F.Files.state c.read_timed.new.files in
-    let after = g.F.Files.state c.read_named_plan.new.files in
-    of_error (λ text. IsMade command before after (string_bytes text)) c.from_residual-in_err-bytes.result c.from_residual-in_err-bytes.ensures.0 c.from_residual-in_err-bytes.ensures.1
-    (λ e is. subst (λ fault. IsCauseFor command before after (refusal_of fault)) (sym is)
-    (audit_fault before middle after c.args.name.now c.args.second.now c.args.periods c.in_ok-timed.timed c.in_ok-timed.ensures (refusal_of c.in_err-bytes.field-0.0) c.in_err-bytes.ensures))
-
 pub returns : goal.returns
 returns g c =
     let before = g.F.Files.state c.args.files.now in
     let middle = g.F.Files.state c.read_timed.new.files in
-    let after = g.F.Files.state c.read_named_plan.new.files in
-    let audited = rw c.deref.ensures.value at c.audit_of.ensures in
-    both_ways c.audit_of.result
-    (λ text. audited_is_made before middle after c.args.name.now c.args.second.now c.args.periods c.in_ok-timed.timed c.in_ok-bytes.bytes.items c.known.ensures c.in_ok-timed.ensures c.in_ok-bytes.ensures (string_bytes text))
-    (λ e. audited_is_cause before middle after c.args.name.now c.args.second.now c.args.periods c.in_ok-timed.timed c.in_ok-bytes.bytes.items c.known.ensures c.in_ok-timed.ensures c.in_ok-bytes.ensures (refusal_of e)) audited
+    let after = g.F.Files.state c.audit_over.new.files in
+    let read = c.in_ok-timed.ensures in
+    both_ways c.audit_over.result (λ text. audited_is_made before middle after c.args.name.now c.args.second.now c.args.periods c.in_ok-timed.timed read (string_bytes text))
+    (λ e. unaudited_is_cause before middle after c.args.name.now c.args.second.now c.args.periods c.in_ok-timed.timed read (refusal_of e)) c.audit_over.ensures
