@@ -1,9 +1,9 @@
 -- Part after part, until nothing is left.
-use Rattle.std.proofs.Common.{◌≡◌, ℕ, ◌-◌, ◌*◌, ◌^◌, ◌<◌, ◌≤◌, Bool, Option, List, [], ◌∷◌, ◌++◌, length, take, Some, arith, refl, sym, ◌∙◌, subst}
+use Rattle.std.proofs.Common.{◌≡◌, ℕ, ◌-◌, ◌*◌, ◌^◌, ◌<◌, ◌≤◌, Bool, Option, List, [], ◌∷◌, ◌++◌, length, Some, arith, refl, sym, ◌∙◌, subst}
 use mathlib.Core.Path.{fun_ext}
 use Rattle.std.specs.List.{slice_get}
 use Rattle.std.proofs.Math.Nat.{pow-suc, pow-zero}
-use Rattle.std.proofs.lemmas.List.{append_assoc, take_at}
+use Rattle.std.proofs.lemmas.List.{append_assoc}
 use Rattle.bipartite_slots.specs.Squares.{SquareView, cell, HasSums}
 use Rattle.bipartite_slots.specs.Columns.{AreListed}
 use Rattle.bipartite_slots.specs.Searches.{IsMatching}
@@ -69,10 +69,6 @@ module _ (weights : Weights) (total : ℕ) (rows : List (List ℕ)) (square new 
               (subst (λ c. AreChosen (2 * weights.nodes) weights.edges c (left - part.duration) rest) (same_cells (cell new) (lowered (cell square) t.columns part.duration) t.left) h),
         )));
   }
-
--- the vector that was lent is what came back
-pub came_back : {X : Type 0} (n : ℕ) (new rest : List X) → length new ≡ n → take n (new ++ rest) ≡ new
-came_back n new rest e = take_at new rest n e
 
 module _ (weights : Weights) (total : ℕ) (square : SquareView) (size : square.size ≡ 2 * weights.nodes) (cells : (i j : ℕ) → cell square i j ≡ padded weights total i j)
     (exist : Exist weights) (apart : AreApart weights.edges) (sums : AreWithin weights total) where

@@ -44,18 +44,75 @@ pub fn slots(alloc: Global, weights: &Weights, total: u128) -> Result<Vec<SlotPa
 {
     let mut square = padded(alloc, weights, total)?;
     let columns = Columns::of_square(alloc, &square)?;
+    split(alloc, weights, total, &columns, &mut square)
+}
+
+/// Splits the filled up weights into parts.
+fn split(
+    alloc: Global,
+    weights: &Weights,
+    total: u128,
+    columns: &Columns,
+    square: &mut Square,
+) -> Result<Vec<SlotPart>, NoMemory>
+    requires few_nodes { weights.now.nodes ≤ 1000 }
+    requires exist { Exist weights.now }
+    requires apart { AreApart weights.now.edges }
+    requires within { AreWithin weights.now total }
+    requires size { square.old.size ≡ 2 * weights.now.nodes }
+    requires some_size { 0 < square.old.size }
+    requires cells { (row column : ℕ) → cell square.old row column ≡ padded weights.now total row column }
+    requires listed { AreListed columns.now square.old.size (cell square.old) }
+    ensures parts { IfOk result (λ parts. AreParts weights.now total parts.items) }
+    ensures chosen { IfOk result (λ parts. AreChosen (2 * weights.now.nodes) weights.now.edges (padded weights.now total) total parts.items) }
+{
     let mut seen = vec![in alloc; false; square.size()]?;
     let mut holders = vec![in alloc; None; square.size()]?;
+    take_parts(
+        alloc,
+        weights,
+        total,
+        columns,
+        square,
+        &mut seen,
+        &mut holders,
+    )
+}
+
+/// Takes part after part from the filled up weights, until nothing is left.
+fn take_parts(
+    alloc: Global,
+    weights: &Weights,
+    total: u128,
+    columns: &Columns,
+    square: &mut Square,
+    seen: &mut [bool],
+    holders: &mut [Option<usize>],
+) -> Result<Vec<SlotPart>, NoMemory>
+    requires few_nodes { weights.now.nodes ≤ 1000 }
+    requires exist { Exist weights.now }
+    requires apart { AreApart weights.now.edges }
+    requires within { AreWithin weights.now total }
+    requires size { square.old.size ≡ 2 * weights.now.nodes }
+    requires some_size { 0 < square.old.size }
+    requires cells { (row column : ℕ) → cell square.old row column ≡ padded weights.now total row column }
+    requires listed { AreListed columns.now square.old.size (cell square.old) }
+    requires seen { length seen.old ≡ square.old.size }
+    requires holders { length holders.old ≡ square.old.size }
+    requires matching { IsMatching (cell square.old) holders.old }
+    ensures parts { IfOk result (λ parts. AreParts weights.now total parts.items) }
+    ensures chosen { IfOk result (λ parts. AreChosen (2 * weights.now.nodes) weights.now.edges (padded weights.now total) total parts.items) }
+{
     let mut parts = Vec::new(alloc);
     let mut left = total;
     while left > 0 {
         let part = next_part(
             alloc,
-            &columns,
+            columns,
             weights.edges.as_slice(),
-            &mut square,
-            &mut seen,
-            &mut holders,
+            square,
+            seen,
+            holders,
         )?;
         left -= part.duration;
         parts.push(part)?;

@@ -9,7 +9,7 @@ use Rattle.text_lines.specs.Lines.{line}
 use Rattle.dual_checker.specs.declared.reading.CertificateFault.{CertificateFault}
 use Rattle.dual_checker.specs.declared.reading.CertificateFault.TheVariants.{Line, NoMemory}
 use Rattle.dual_checker.specs.Texts.{header_text, price_word, prices_text}
-use Rattle.dual_checker.specs.Reading.{after_text, number_after, least_price, with_price, next_price, prices_of, ended, certificate_of, IsFault}
+use Rattle.dual_checker.specs.Reading.{after_text, number_after, least_price, with_price, next_price, prices_of, ended, priced, certificate_of, IsFault}
 
 -- the lines of prices with one more
 pub prices_push : (k : ℕ) (prices : List ℤ) (price : ℤ) → prices_text k (prices ++ price ∷ []) ≡ prices_text k prices ++ line (price_word (k + length prices) ++ signed_decimal price)
@@ -65,9 +65,20 @@ pub left_over : (number : ℕ) (c : CertificateView) (rest : List ℕ) → 0 < l
 left_over number c [] some = absurd (omega (arith, some))
 left_over number c (b ∷ rest) some = refl
 
+-- the lines before the prices read
+pub head_read : (series : Series) (rows : ℕ) (bytes r s t u : List ℕ) (scale best : ℤ) →
+    after_text 1 (header_text series) bytes ≡ Ok r → after_text 2 (codes "rows " ++ decimal rows) r ≡ Ok s → number_after 3 (codes "scale ") (pos 1) s ≡ Ok (scale, t) →
+    number_after 4 (codes "best ") (pos 0) t ≡ Ok (best, u) → certificate_of series rows bytes ≡ priced rows scale best (prices_of rows u)
+head_read series rows bytes r s t u scale best e f g h = rw (e, f, g, h) refl
+
+-- the lines from the prices on read
+pub prices_read : (rows : ℕ) (u v w : List ℕ) (scale best : ℤ) (prices : List ℤ) → prices_of rows u ≡ Ok (prices, v) → after_text (rows + 5) (codes "end") v ≡ Ok w →
+    priced rows scale best (prices_of rows u) ≡ ended (rows + 5) (record { scale = scale; best = best; prices = prices }) (Ok w)
+prices_read rows u v w scale best prices i j = rw (i, j) refl
+
 -- all lines read
 pub lines_read : (series : Series) (rows : ℕ) (bytes r s t u v w : List ℕ) (scale best : ℤ) (prices : List ℤ) →
     after_text 1 (header_text series) bytes ≡ Ok r → after_text 2 (codes "rows " ++ decimal rows) r ≡ Ok s → number_after 3 (codes "scale ") (pos 1) s ≡ Ok (scale, t) →
     number_after 4 (codes "best ") (pos 0) t ≡ Ok (best, u) → prices_of rows u ≡ Ok (prices, v) → after_text (rows + 5) (codes "end") v ≡ Ok w →
     certificate_of series rows bytes ≡ ended (rows + 5) (record { scale = scale; best = best; prices = prices }) (Ok w)
-lines_read series rows bytes r s t u v w scale best prices e f g h i j = rw (e, f, g, h, i, j) refl
+lines_read series rows bytes r s t u v w scale best prices e f g h i j = head_read series rows bytes r s t u scale best e f g h ∙ prices_read rows u v w scale best prices i j

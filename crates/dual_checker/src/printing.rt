@@ -62,6 +62,23 @@ fn push_prices(out: &mut String, prices: &[i128]) -> Result<(), NoMemory>
     Ok(())
 }
 
+/// Appends the text of a certificate.
+fn push_certificate(
+    out: &mut String,
+    series: Series,
+    certificate: &Certificate,
+) -> Result<(), NoMemory>
+    ensures { OnOk result (string_bytes out.new ≡ string_bytes out.old ++ certificate_text series certificate.now) }
+{
+    push_header(out, series)?;
+    push_rows(out, certificate.prices().len())?;
+    push_scale(out, certificate.scale())?;
+    push_best(out, certificate.best())?;
+    push_prices(out, certificate.prices())?;
+    out.push_str("end\n")?;
+    Ok(())
+}
+
 /// The text of a certificate: the series, the number of rows, the scale, the best and the price of each row, a line each.
 pub fn print_certificate(
     alloc: Global,
@@ -71,11 +88,6 @@ pub fn print_certificate(
     ensures { IfOk result (λ text. string_bytes text ≡ certificate_text series certificate.now) }
 {
     let mut out = String::new(alloc);
-    push_header(&mut out, series)?;
-    push_rows(&mut out, certificate.prices().len())?;
-    push_scale(&mut out, certificate.scale())?;
-    push_best(&mut out, certificate.best())?;
-    push_prices(&mut out, certificate.prices())?;
-    out.push_str("end\n")?;
+    push_certificate(&mut out, series, certificate)?;
     Ok(out)
 }

@@ -1,8 +1,8 @@
 //! Reads a certificate's text.
 
-ghost use Rattle.std.specs.Prelude.{◌≡◌, ◌<◌, ◌^◌, ◌≤ℤ◌, nat_abs, Ok, Err, [], ◌++◌, MatchResult, IfOk, IfSome, OnOk, length, codes, decimal, string_bytes, All};
+ghost use Rattle.std.specs.Prelude.{◌≡◌, ◌<◌, ◌^◌, ◌≤ℤ◌, nat_abs, pos, Ok, Err, [], ◌++◌, MatchResult, IfOk, IfSome, OnOk, length, codes, decimal, string_bytes, All};
 ghost use Rattle.dual_checker.specs.Texts.{header_text, price_word};
-ghost use Rattle.dual_checker.specs.Reading.{after_text, number_in, number_after, prices_of, certificate_of, IsFault};
+ghost use Rattle.dual_checker.specs.Reading.{after_text, number_in, number_after, prices_of, priced, certificate_of, IsFault};
 
 use linear_program::Certificate;
 use listed::{Listed, NoMemory};
@@ -134,6 +134,31 @@ fn read_prices<'a>(
     Ok(rest)
 }
 
+/// The certificate with this scale and best, of the lines from the prices on.
+fn read_priced(
+    alloc: Global,
+    rows: u32,
+    scale: i128,
+    best: i128,
+    bytes: &[u8],
+) -> Result<Certificate, CertificateFault>
+    requires scale { pos 1 ≤ℤ scale }
+    requires best { pos 0 ≤ℤ best }
+    requires small { (nat_abs scale < 2 ^ 127) × (nat_abs best < 2 ^ 127) }
+    ensures value { MatchResult result (λ c. priced rows scale best (prices_of rows bytes.now) ≡ Ok c) (λ fault. IsFault fault (priced rows scale best (prices_of rows bytes.now))) }
+    ensures rows { IfOk result (λ c. length c.prices ≡ rows) }
+{
+    let mut prices = Listed::new(alloc);
+    let rest = read_prices(alloc, &mut prices, rows, bytes)?;
+    let end = u64::from(rows) + 5;
+    let rest = after_text(end, b"end", rest)?;
+    if rest.is_empty() {
+        Ok(Certificate::new(scale, best, prices))
+    } else {
+        Err(CertificateFault::Line(end + 1))
+    }
+}
+
 /// Reads a certificate's text: exactly the texts that [`print_certificate`] gives of certificates with the series and the number of rows.
 ///
 /// # Errors
@@ -154,13 +179,5 @@ pub fn read_certificate(
     let rest = after_rows(alloc, rows, rest)?;
     let (scale, rest) = number_after(3, b"scale ", 1, rest)?;
     let (best, rest) = number_after(4, b"best ", 0, rest)?;
-    let mut prices = Listed::new(alloc);
-    let rest = read_prices(alloc, &mut prices, rows, rest)?;
-    let end = u64::from(rows) + 5;
-    let rest = after_text(end, b"end", rest)?;
-    if rest.is_empty() {
-        Ok(Certificate::new(scale, best, prices))
-    } else {
-        Err(CertificateFault::Line(end + 1))
-    }
+    read_priced(alloc, rows, scale, best, rest)
 }

@@ -12,7 +12,7 @@ use Rattle.period_table.specs.Lanes.{lanes_of}
 use Rattle.period_table.specs.Tables.{HasTasks, longest}
 use Rattle.text_lines.specs.Lines.{line}
 use Rattle.plan_text.specs.Texts.{header_text, ratio_text, routes_text, slots_text}
-use Rattle.plan_text.specs.Reading.{HasNoNext, IsNext, IsRouteLine, IsSlotLine, IsEndLine, HeadView, AreRead, IsReadThrough, IsFaultAt, table_of, Agrees, IsDisagreement, IsPlanOf}
+use Rattle.plan_text.specs.Reading.{HasNoNext, IsNext, IsRouteLine, IsSlotLine, IsEndLine, IsFaultBehind, HeadView, AreRead, IsReadThrough, IsFaultAt, table_of, Agrees, IsDisagreement, IsPlanOf}
 use Rattle.plan_text.specs.Reading.Place.{at_header, at_row, behind_end}
 use Rattle.plan_text.proofs.Steps.{more, and_more, first_fault, step_end, stuck_row, stuck_behind}
 use Rattle.plan_text.proofs.Places.{IsKnownRow, text_before, read_text, read_known, lines_within}
@@ -62,6 +62,17 @@ module _ (t : TimedView) (bytes behind_head behind_routes left : List ℕ) (head
 
     pub through : rest ≡ [] → IsReadThrough t bytes head routes slots
     through e = record { lines = suc (length slots + (length routes + 6)); read = subst (AreRead (suc (length slots + (length routes + 6))) t at_header bytes (behind_end head routes slots)) e end_read }
+
+  -- reading stops behind the slots
+  pub stops_behind : (number end : ℕ) → end ≡ 7 + length routes + length slots → HasNoNext (IsRouteLine t head.series (length routes)) behind_routes →
+      (suc (length slots) < 2 ^ 32 → HasNoNext (IsSlotLine (lanes_of routes)) left) → IsFaultBehind slots end left number → IsFaultAt t bytes number
+  stops_behind number end is no_route no_slot (inl found) = subst (IsFaultAt t bytes) (sym (found.0 ∙ is)) (row_fault no_route no_slot found.1)
+  stops_behind number end is no_route no_slot (inr found) =
+      let rest = found.2 in
+      subst (IsFaultAt t bytes) (sym (found.0 ∙ one_more end (length routes) (length slots) is)) (behind_fault rest.0 found.1 rest.1 rest.2)
+    where
+      one_more : (e r s : ℕ) → e ≡ 7 + r + s → e + 1 ≡ 8 + r + s
+      one_more e r s is = omega (arith, is)
 
 -- what is known of a text that is read to its end
 pub through_known : (t : TimedView) (bytes : List ℕ) (head : HeadView) (routes : List Route) (slots : List Slot) → IsReadThrough t bytes head routes slots → IsKnownRow t head routes slots × (slots ≢ [])

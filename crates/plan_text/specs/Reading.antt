@@ -96,6 +96,12 @@ pub record IsSlotLine (lanes : List LaneAt) (text : List ℕ) (slot : Slot) : Ty
 abbrev pub IsEndLine : List ℕ → Unit {0} → Type 0
 IsEndLine text nothing = text ≡ codes "end"
 
+-- behind the slots, reading stops at the line of the end, since there is no slot or another line stands there, or at the one behind it
+abbrev pub IsFaultBehind : List Slot → ℕ → List ℕ → ℕ → Type 0
+IsFaultBehind slots end bytes number =
+    ((number ≡ end) × (slots ≢ [] → HasNoNext IsEndLine bytes))
+    ⊎ ((number ≡ end + 1) × (slots ≢ []) × ((left : List ℕ) × IsNext IsEndLine bytes tt left × (left ≢ [])))
+
 -- what the lines before the routes say
 pub record HeadView : Type 0 where
   pub series : Series

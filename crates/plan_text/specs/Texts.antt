@@ -68,6 +68,15 @@ slots_text (slot ∷ slots) = slot_text slot ++ slots_text slots
 abbrev pub header_text : Series → List ℕ
 header_text series = codes "plan 1 " ++ series_text series
 
+-- the numbers of a table: its unit, its period, its tasks, its depth and its rate in time units
+abbrev pub numbers_text : TimedView → Table → List ℕ
+numbers_text t table =
+    line (codes "unit " ++ decimal t.unit)
+    ++ (line (codes "period " ++ decimal table.period)
+    ++ (line (codes "tasks " ++ decimal table.tasks)
+    ++ (line (codes "depth " ++ decimal table.depth)
+    ++ line (codes "rate " ++ ratio_text (reduced (table.tasks * t.unit) table.period)))))
+
 -- the table and its rate in time units
 abbrev pub plan_text : TimedView → Series → Table → List ℕ
 plan_text t series table =

@@ -3,7 +3,7 @@
 ghost use Rattle.std.specs.Prelude.{◌≡◌, ◌<◌, ◌++◌, ◌∷◌, [], All, length, IfOk, OnOk, codes, decimal, string_bytes};
 ghost use Rattle.text_lines.specs.Lines.{line};
 ghost use Rattle.period_table.specs.Tables.{IsWalk, IsRoute, Fits, nodes_on};
-ghost use Rattle.plan_text.specs.Texts.{header_text, ratio_text, name_of, names_text, route_text, routes_text, pieces_text, slot_text, slots_text, plan_text};
+ghost use Rattle.plan_text.specs.Texts.{header_text, ratio_text, name_of, names_text, route_text, routes_text, pieces_text, slot_text, slots_text, numbers_text, plan_text};
 
 use flow_routes::Route;
 use listed::NoMemory;
@@ -142,6 +142,29 @@ fn push_slots(out: &mut String, slots: &[Slot]) -> Result<(), NoMemory>
     Ok(())
 }
 
+/// Appends the lines of the numbers: the unit, the period, the tasks, the depth and the rate.
+fn push_numbers(
+    out: &mut String,
+    timed: &Timed,
+    series: Series,
+    table: &Table,
+) -> Result<(), NoMemory>
+    requires { Fits timed.now series table.now }
+    ensures { OnOk result (string_bytes out.new ≡ string_bytes out.old ++ numbers_text timed.now table.now) }
+{
+    let _ = series;
+    timed.known();
+    fitting_tables_hold();
+    push_number(out, "unit", u128::from(timed.unit()))?;
+    push_number(out, "period", table.period)?;
+    push_number(out, "tasks", table.tasks)?;
+    push_number(out, "depth", u128::from(table.depth))?;
+    if let Some(rate) = table.rate(timed) {
+        push_rate(out, rate)?;
+    }
+    Ok(())
+}
+
 /// The text of a plan: a table that fits, with its unit and its rate.
 ///
 /// # Errors
@@ -159,13 +182,7 @@ pub fn print_plan(
     timed.known();
     fitting_tables_hold();
     let mut out = begun(alloc, series)?;
-    push_number(&mut out, "unit", u128::from(timed.unit()))?;
-    push_number(&mut out, "period", table.period)?;
-    push_number(&mut out, "tasks", table.tasks)?;
-    push_number(&mut out, "depth", u128::from(table.depth))?;
-    if let Some(rate) = table.rate(timed) {
-        push_rate(&mut out, rate)?;
-    }
+    push_numbers(&mut out, timed, series, table)?;
     push_routes(&mut out, timed, series, table.routes.as_slice())?;
     push_slots(&mut out, table.slots.as_slice())?;
     out.push_str("end\n")?;

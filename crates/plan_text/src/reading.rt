@@ -1,9 +1,9 @@
 //! Reads a plan.
 
-ghost use Rattle.std.specs.Prelude.{◌≡◌, ◌≢◌, ℕ, ◌<◌, ◌≤◌, ◌^◌, true, [], All, IfOk, IfErr, MatchOption, length};
+ghost use Rattle.std.specs.Prelude.{◌≡◌, ◌≢◌, ℕ, ◌-◌, ◌<◌, ◌≤◌, ◌^◌, true, [], All, IfOk, IfErr, MatchOption, length};
 ghost use Rattle.period_table.specs.Lanes.{lanes_of};
 ghost use Rattle.period_table.specs.Tables.{IsRoute, IsSlot};
-ghost use Rattle.plan_text.specs.Reading.{IsNext, HasNoNext, IsEndLine, RateAgrees, Agrees, IsDisagreement, IsReadThrough, IsPlanTextFault, IsPlanOf};
+ghost use Rattle.plan_text.specs.Reading.{IsNext, HasNoNext, IsEndLine, IsFaultBehind, RateAgrees, Agrees, IsDisagreement, IsReadThrough, IsPlanTextFault, IsPlanOf};
 
 use crate::fault::PlanTextFault;
 use crate::head::{Head, read_head};
@@ -30,6 +30,20 @@ fn behind_end(bytes: &[u8]) -> Option<&[u8]>
     }
 }
 
+/// The line behind the slots at which reading stops: that of the end, which is missing or comes before any slot, or the one behind it.
+fn fault_behind(slots: &[Slot], end: u64, bytes: &[u8]) -> Option<u64>
+    requires { end < 2 ^ 64 - 1 }
+    ensures { MatchOption result ((slots.now ≢ []) × IsNext IsEndLine bytes.now tt []) (IsFaultBehind slots.now end bytes.now) }
+{
+    if slots.is_empty() {
+        return Some(end);
+    }
+    let Some(rest) = behind_end(bytes) else {
+        return Some(end);
+    };
+    if rest.is_empty() { None } else { Some(end + 1) }
+}
+
 /// Reads each line by itself: what the lines before the routes say, the routes and the slots.
 fn read_lines(
     alloc: Global,
@@ -43,16 +57,10 @@ fn read_lines(
     let (routes, rest) = read_routes(alloc, timed, &head, rest)?;
     let (slots, rest) = read_slots(alloc, timed, &head, routes.as_slice(), rest)?;
     let end = 7 + routes.len() as u64 + slots.len() as u64;
-    if slots.is_empty() {
-        return Err(PlanTextFault::Line(end));
+    match fault_behind(slots.as_slice(), end, rest) {
+        Some(number) => Err(PlanTextFault::Line(number)),
+        None => Ok((head, routes, slots)),
     }
-    let Some(rest) = behind_end(rest) else {
-        return Err(PlanTextFault::Line(end));
-    };
-    if !rest.is_empty() {
-        return Err(PlanTextFault::Line(end + 1));
-    }
-    Ok((head, routes, slots))
 }
 
 /// Whether a table has the rate of a head.

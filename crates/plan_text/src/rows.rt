@@ -5,6 +5,7 @@ ghost use Rattle.flow_routes.specs.declared.flow.Route.{Route};
 ghost use Rattle.period_table.specs.declared.table.Slot.{Slot};
 ghost use Rattle.period_table.specs.declared.table.Piece.{Piece};
 ghost use Rattle.period_table.specs.Lanes.{lanes_of};
+ghost use Rattle.text_lines.specs.Lines.{words_of};
 ghost use Rattle.plan_text.specs.Walks.{IsKind};
 ghost use Rattle.plan_text.specs.Reading.{IsNext, HasNoNext, IsNumbered, IsRouteHead, IsRouteLine, IsPieceWord, ArePieceWords, IsSlotLine, AreRead};
 ghost use Rattle.plan_text.specs.Reading.Place.{at_row};
@@ -109,19 +110,18 @@ fn route_head<'a>(
     Some((count, start, names))
 }
 
-/// The route of a line.
-fn route_in(
+/// The route of a line's words.
+fn route_of_words(
     alloc: Global,
     timed: &Timed,
     series: Series,
     number: u64,
-    text: &[u8],
+    words: &[&[u8]],
 ) -> Result<Option<Route>, NoMemory>
-    ensures { IfOk result (λ found. MatchOption found ((route : Route) → IsRouteLine timed.now series number text.now route → ⊥) (λ route. IsRouteLine timed.now series number text.now route)) }
+    ensures { (text : List ℕ) → map (λ word. word.now) words.now ≡ words_of text → IfOk result (λ found. MatchOption found ((route : Route) → IsRouteLine timed.now series number text route → ⊥) (λ route. IsRouteLine timed.now series number text route)) }
 {
     timed.known();
-    let words = words_of(alloc, text)?;
-    let Some((count, start, names)) = route_head(timed, number, words.as_slice()) else {
+    let Some((count, start, names)) = route_head(timed, number, words) else {
         return Ok(None);
     };
     let Some((links, end)) = walk_over(alloc, timed, start, names)? else {
@@ -141,6 +141,20 @@ fn route_in(
     } else {
         Ok(None)
     }
+}
+
+/// The route of a line.
+fn route_in(
+    alloc: Global,
+    timed: &Timed,
+    series: Series,
+    number: u64,
+    text: &[u8],
+) -> Result<Option<Route>, NoMemory>
+    ensures { IfOk result (λ found. MatchOption found ((route : Route) → IsRouteLine timed.now series number text.now route → ⊥) (λ route. IsRouteLine timed.now series number text.now route)) }
+{
+    let words = words_of(alloc, text)?;
+    route_of_words(alloc, timed, series, number, words.as_slice())
 }
 
 /// The piece of a word.
@@ -170,18 +184,17 @@ fn pieces_in(alloc: Global, words: &[&[u8]]) -> Result<Option<Listed<Piece>>, No
     Ok(Some(pieces))
 }
 
-/// The slot of a line, over the lanes of some routes.
-fn slot_in(
+/// The slot of a line's words, over the lanes of some routes.
+fn slot_of_words(
     alloc: Global,
     lanes: u128,
     routes: &[Route],
-    text: &[u8],
+    words: &[&[u8]],
 ) -> Result<Option<Slot>, NoMemory>
     requires { lanes ≡ length (lanes_of routes.now) }
-    ensures { IfOk result (λ found. MatchOption found ((slot : Slot) → IsSlotLine (lanes_of routes.now) text.now slot → ⊥) (λ slot. IsSlotLine (lanes_of routes.now) text.now slot)) }
+    ensures { (text : List ℕ) → map (λ word. word.now) words.now ≡ words_of text → IfOk result (λ found. MatchOption found ((slot : Slot) → IsSlotLine (lanes_of routes.now) text slot → ⊥) (λ slot. IsSlotLine (lanes_of routes.now) text slot)) }
 {
-    let words = words_of(alloc, text)?;
-    let Some((duration, others)) = numbered(b"slot", words.as_slice()) else {
+    let Some((duration, others)) = numbered(b"slot", words) else {
         return Ok(None);
     };
     if duration > MOST_COUNT {
@@ -196,6 +209,20 @@ fn slot_in(
     } else {
         Ok(None)
     }
+}
+
+/// The slot of a line, over the lanes of some routes.
+fn slot_in(
+    alloc: Global,
+    lanes: u128,
+    routes: &[Route],
+    text: &[u8],
+) -> Result<Option<Slot>, NoMemory>
+    requires { lanes ≡ length (lanes_of routes.now) }
+    ensures { IfOk result (λ found. MatchOption found ((slot : Slot) → IsSlotLine (lanes_of routes.now) text.now slot → ⊥) (λ slot. IsSlotLine (lanes_of routes.now) text.now slot)) }
+{
+    let words = words_of(alloc, text)?;
+    slot_of_words(alloc, lanes, routes, words.as_slice())
 }
 
 /// The route of the next line, and what is left.

@@ -32,6 +32,10 @@ divided_table t scale divisor routes parts = record {
 abbrev pub table_with : TimedView → Scale → List Route → List SlotPart → Table
 table_with t scale routes parts = divided_table t scale (common_factor t scale.times scale.ticks routes parts) routes parts
 
+-- the parts are the ruled ones of the routes' loads
+abbrev pub AreFirstParts : TimedView → ℕ → List Route → List SlotPart → Type 0
+AreFirstParts t total routes parts = AreChosenParts (2 * length t.platform.nodes) (weights_of t routes).edges (padded (weights_of t routes) total) total parts
+
 -- the table is the one of the ruled routes of the values' flow and of the ruled parts of what these send over the links
 pub record IsTableOf (t : TimedView) (values : List Fraction) (table : Table) : Type 0 where
   pub scale : Scale
@@ -41,5 +45,5 @@ pub record IsTableOf (t : TimedView) (values : List Fraction) (table : Table) : 
   pub first_routes : AreChosen (flow_of t values scale.ticks) 0 routes
   pub parts : List SlotPart
   pub parted : AreParts (weights_of t routes) scale.ticks parts
-  pub first_parts : AreChosenParts (2 * length t.platform.nodes) (weights_of t routes).edges (padded (weights_of t routes) scale.ticks) scale.ticks parts
+  pub first_parts : AreFirstParts t scale.ticks routes parts
   pub same : table ≡ table_with t scale routes parts

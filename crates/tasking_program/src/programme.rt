@@ -1,11 +1,13 @@
 //! The programme.
 
-ghost use Rattle.std.specs.Prelude.{◌≡◌, ◌<◌, ◌^◌, All, length, map, nat_abs, IfOk};
+ghost use Rattle.std.specs.Prelude.{◌≡◌, ◌<◌, ◌≤◌, ◌^◌, All, length, map, nat_abs, IfOk};
+ghost use Rattle.linear_program.specs.Programmes.{IsRow};
+ghost use Rattle.tasking_program.specs.Columns.{columns_of, Exists};
 ghost use Rattle.tasking_program.specs.Programme.{gain_of, tasking_programme};
 
 use crate::columns::{Column, columns_of};
 use crate::rows::{Limit, push_rows};
-use linear_program::Lp;
+use linear_program::{Lp, Row};
 use listed::{Listed, NoMemory};
 use platform_file::Timed;
 use std::alloc::Global;
@@ -32,6 +34,35 @@ fn gains(alloc: Global, columns: &[Column]) -> Result<Listed<i128>, NoMemory>
     Ok(gain)
 }
 
+/// The rows: of processors, of send ports, of receive ports and of supplies.
+fn limits(alloc: Global, timed: &Timed, columns: &[Column]) -> Result<Listed<Row>, NoMemory>
+    requires columns { columns.now ≡ columns_of timed.now }
+    requires exist { All (Exists timed.now) columns.now }
+    requires few { length columns.now ≤ 160 }
+    ensures value { IfOk result (λ rows. rows ≡ (tasking_programme timed.now).rows) }
+    ensures rows { IfOk result (All (IsRow (length columns.now))) }
+{
+    let mut rows = Listed::new(alloc);
+    push_rows(alloc, &mut rows, timed, columns, Limit::Compute)?;
+    push_rows(alloc, &mut rows, timed, columns, Limit::Send)?;
+    push_rows(alloc, &mut rows, timed, columns, Limit::Receive)?;
+    push_rows(alloc, &mut rows, timed, columns, Limit::Supply)?;
+    Ok(rows)
+}
+
+/// The programme over its columns.
+fn programme_over(alloc: Global, timed: &Timed, columns: &[Column]) -> Result<Lp, NoMemory>
+    requires columns { columns.now ≡ columns_of timed.now }
+    requires exist { All (Exists timed.now) columns.now }
+    requires few { length columns.now ≤ 160 }
+    ensures { IfOk result (λ lp. lp ≡ tasking_programme timed.now) }
+{
+    timed.platform().known();
+    let rows = limits(alloc, timed, columns)?;
+    let gain = gains(alloc, columns)?;
+    Ok(Lp::new(columns.len() as u32, rows, gain))
+}
+
 /// The programme whose greatest gain is the best rate of tasking, in tasks per tick.
 ///
 /// Its columns are a rate for each node that computes and a flow for each link that doesn't enter the master, in tasks per tick. Its rows
@@ -43,14 +74,6 @@ fn gains(alloc: Global, columns: &[Column]) -> Result<Listed<i128>, NoMemory>
 pub fn tasking_lp(alloc: Global, timed: &Timed) -> Result<Lp, NoMemory>
     ensures { IfOk result (λ lp. lp ≡ tasking_programme timed.now) }
 {
-    timed.platform().known();
     let columns = columns_of(alloc, timed)?;
-    let columns = columns.as_slice();
-    let mut rows = Listed::new(alloc);
-    push_rows(alloc, &mut rows, timed, columns, Limit::Compute)?;
-    push_rows(alloc, &mut rows, timed, columns, Limit::Send)?;
-    push_rows(alloc, &mut rows, timed, columns, Limit::Receive)?;
-    push_rows(alloc, &mut rows, timed, columns, Limit::Supply)?;
-    let gain = gains(alloc, columns)?;
-    Ok(Lp::new(columns.len() as u32, rows, gain))
+    programme_over(alloc, timed, columns.as_slice())
 }

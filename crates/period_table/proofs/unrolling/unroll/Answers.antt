@@ -1,8 +1,8 @@
-use Rattle.std.proofs.Common.{rules, ◌≡◌, ◌+◌, ◌^◌, ◌<◌, ◌≤◌, true, false, nat_lt, All, sym, subst, arith}
+use Rattle.std.proofs.Common.{rules, ◌≡◌, ℕ, ◌+◌, ◌^◌, ◌<◌, ◌≤◌, true, false, nat_lt, All, sym, subst, arith}
 use Rattle.std.proofs.lemmas.Bool.Decides.{nat_tests}
 use Rattle.period_table.specs.Lanes.{lanes_of}
 use Rattle.period_table.specs.Counts.{sends_below, computes_below}
-use Rattle.period_table.proofs.Lengths.{length_below, length_of_period}
+use Rattle.period_table.proofs.Lengths.{length_below}
 use Rattle.period_table.proofs.FittingTables.{lanes_bounded}
 use Rattle.period_table.proofs.unrolling.unroll.Goals as goal
 
@@ -21,23 +21,18 @@ returns-then-is_too_long-clause-fault c =
     more : (a b : _) → a ≡ b → nat_lt 4000000 b ≡ true → 4000000 < a
     more a b e h = rw e (grind (arith, nat_tests))
 
-pub place_period-requires-clause-few : goal.place_period-requires-clause-few
-place_period-requires-clause-few c =
-    let t = c.args.timed.now in let table = c.args.table.now in
+-- the operations that aren't too many
+short_below : (a b : ℕ) → a ≡ b → nat_lt 4000000 b ≡ false → a ≤ 4000000
+short_below a b e h = rw e (grind (arith, nat_tests))
+
+pub laid_out-requires-clause-short : goal.laid_out-requires-clause-short
+laid_out-requires-clause-short c =
+    let table = c.args.table.now in
     let short : nat_lt 4000000 (computes_below c.args.series table.routes c.args.periods + sends_below (lanes_of table.routes) c.args.periods) ≡ false = search rules in
-    let all = length_below t c.args.series table c.requires.fits c.args.periods in
-    let part = length_of_period t c.args.series table c.loop-period.period c.args.periods c.loop-period-test.true in
-    less _ _ _ all short part
-  where
-    less : (a b p : _) → a ≡ b → nat_lt 4000000 b ≡ false → p ≤ a → p ≤ 4000000
-    less a b p e h l = let most : b ≤ 4000000 = grind (arith, nat_tests) in omega (arith, e, most, l)
+    short_below _ _ (length_below c.args.timed.now c.args.series table c.requires.fits c.args.periods) short
 
 pub returns-clause-short : goal.returns-clause-short
 returns-clause-short c =
-    let t = c.args.timed.now in let table = c.args.table.now in
+    let table = c.args.table.now in
     let short : nat_lt 4000000 (computes_below c.args.series table.routes c.args.periods + sends_below (lanes_of table.routes) c.args.periods) ≡ false = search rules in
-    let all = length_below t c.args.series table c.requires.fits c.args.periods in
-    less _ _ all short
-  where
-    less : (a b : _) → a ≡ b → nat_lt 4000000 b ≡ false → a ≤ 4000000
-    less a b e h = rw e (grind (arith, nat_tests))
+    short_below _ _ (length_below c.args.timed.now c.args.series table c.requires.fits c.args.periods) short

@@ -17,7 +17,7 @@ use Rattle.planner.proofs.Solutions.{whole_ones, short, steady, links_there, wit
 use Rattle.planner.proofs.WeightsFit.{are_within, exist, are_apart}
 use Rattle.planner.proofs.Made.{some_g, tasks_whole, period_whole}
 use Rattle.planner.proofs.Rated.{rated}
-use Rattle.planner.proofs.making.table_of.Goals as goal
+use Rattle.planner.proofs.making.table_over.Goals as goal
 
 pub routes_of-requires-clause-steady : goal.routes_of-requires-clause-steady
 routes_of-requires-clause-steady c =
@@ -25,18 +25,18 @@ routes_of-requires-clause-steady c =
     let values = c.args.values.now in
     let scale = c.in_ok-scale.scale in
     let laws = c.points_are_steady.ensures in
-    let columns = c.as_slice-columns.ensures ∙ c.in_ok-columns.ensures.value in
+    let columns = c.requires.columns in
     let answered = rw columns at c.in_ok-scale.ensures.value in
     let scaled : scale_of t (columns_of t) values ≡ Ok scale = sym answered in
     steady t values scale c.known.ensures (c.columns_are_looked_up.ensures t) (laws.steady t) c.multiples_are_least.ensures c.requires.point scaled c.in_ok-scale.ensures.some
 
-pub weights_of-requires-clause-links : goal.weights_of-requires-clause-links
-weights_of-requires-clause-links c =
+pub parts_of-requires-clause-links : goal.parts_of-requires-clause-links
+parts_of-requires-clause-links c =
     let t = c.args.timed.now in
     let values = c.args.values.now in
     let scale = c.in_ok-scale.scale in
     let laws = c.points_are_steady.ensures in
-    let columns = c.as_slice-columns.ensures ∙ c.in_ok-columns.ensures.value in
+    let columns = c.requires.columns in
     let answered = rw columns at c.in_ok-scale.ensures.value in
     let scaled : scale_of t (columns_of t) values ≡ Ok scale = sym answered in
     let are : AreRoutes (flow_of t values scale.ticks) 0 c.as_slice.result.now = rw c.as_slice.ensures c.in_ok-routes.ensures.routes in
@@ -44,67 +44,67 @@ weights_of-requires-clause-links c =
     (λ (route : Route) inside. All-weaker (λ k. k < length t.platform.links) (λ k. k < 128) (λ k below. omega (arith, below, c.known.ensures.platform.few_links)) route.links inside) c.as_slice.result.now
     (links_there t values scale c.known.ensures (c.columns_are_looked_up.ensures t) (laws.steady t) c.multiples_are_least.ensures c.requires.point scaled c.in_ok-scale.ensures.some c.as_slice.result.now are)
 
-pub weights_of-requires-clause-room : goal.weights_of-requires-clause-room
-weights_of-requires-clause-room c =
+pub parts_of-requires-clause-room : goal.parts_of-requires-clause-room
+parts_of-requires-clause-room c =
     let t = c.args.timed.now in
     let values = c.args.values.now in
     let scale = c.in_ok-scale.scale in
     let laws = c.points_are_steady.ensures in
-    let columns = c.as_slice-columns.ensures ∙ c.in_ok-columns.ensures.value in
+    let columns = c.requires.columns in
     let answered = rw columns at c.in_ok-scale.ensures.value in
     let scaled : scale_of t (columns_of t) values ≡ Ok scale = sym answered in
     let are : AreRoutes (flow_of t values scale.ticks) 0 c.as_slice.result.now = rw c.as_slice.ensures c.in_ok-routes.ensures.routes in
     λ link l. (let small = load_small t values scale c.known.ensures (c.columns_are_looked_up.ensures t) (laws.steady t) c.multiples_are_least.ensures c.requires.point scaled c.in_ok-scale.ensures.some c.as_slice.result.now are link in let few = short t values scale c.known.ensures (c.columns_are_looked_up.ensures t) (laws.steady t) c.multiples_are_least.ensures c.requires.point scaled c.in_ok-scale.ensures.some in omega (arith, small, few))
 
-pub weights_of-requires-clause-time : goal.weights_of-requires-clause-time
-weights_of-requires-clause-time c =
+pub parts_of-requires-clause-time : goal.parts_of-requires-clause-time
+parts_of-requires-clause-time c =
     let t = c.args.timed.now in
     let values = c.args.values.now in
     let scale = c.in_ok-scale.scale in
     let laws = c.points_are_steady.ensures in
-    let columns = c.as_slice-columns.ensures ∙ c.in_ok-columns.ensures.value in
+    let columns = c.requires.columns in
     let answered = rw columns at c.in_ok-scale.ensures.value in
     let scaled : scale_of t (columns_of t) values ≡ Ok scale = sym answered in
     let are : AreRoutes (flow_of t values scale.ticks) 0 c.as_slice.result.now = rw c.as_slice.ensures c.in_ok-routes.ensures.routes in
     λ link l. (let small = load_in_time t values scale c.known.ensures (c.columns_are_looked_up.ensures t) (laws.steady t) c.multiples_are_least.ensures c.requires.point scaled c.in_ok-scale.ensures.some c.as_slice.result.now are link in let few = short t values scale c.known.ensures (c.columns_are_looked_up.ensures t) (laws.steady t) c.multiples_are_least.ensures c.requires.point scaled c.in_ok-scale.ensures.some in omega (arith, small, few))
 
-pub slots-requires-clause-little_time : goal.slots-requires-clause-little_time
-slots-requires-clause-little_time c =
+pub parts_of-requires-clause-little_time : goal.parts_of-requires-clause-little_time
+parts_of-requires-clause-little_time c =
     let t = c.args.timed.now in
     let values = c.args.values.now in
     let scale = c.in_ok-scale.scale in
     let laws = c.points_are_steady.ensures in
-    let columns = c.as_slice-columns.ensures ∙ c.in_ok-columns.ensures.value in
+    let columns = c.requires.columns in
     let answered = rw columns at c.in_ok-scale.ensures.value in
     let scaled : scale_of t (columns_of t) values ≡ Ok scale = sym answered in
     short t values scale c.known.ensures (c.columns_are_looked_up.ensures t) (laws.steady t) c.multiples_are_least.ensures c.requires.point scaled c.in_ok-scale.ensures.some
 
-pub slots-requires-clause-exist : goal.slots-requires-clause-exist
-slots-requires-clause-exist c =
+pub parts_of-requires-clause-exist : goal.parts_of-requires-clause-exist
+parts_of-requires-clause-exist c =
     let t = c.args.timed.now in
     let values = c.args.values.now in
     let scale = c.in_ok-scale.scale in
     let laws = c.points_are_steady.ensures in
-    let columns = c.as_slice-columns.ensures ∙ c.in_ok-columns.ensures.value in
+    let columns = c.requires.columns in
     let answered = rw columns at c.in_ok-scale.ensures.value in
     let scaled : scale_of t (columns_of t) values ≡ Ok scale = sym answered in
     let are : AreRoutes (flow_of t values scale.ticks) 0 c.as_slice.result.now = rw c.as_slice.ensures c.in_ok-routes.ensures.routes in
-    rw c.in_ok-weights.ensures (exist t values scale.ticks (c.columns_are_looked_up.ensures t) c.known.ensures (steady t values scale c.known.ensures (c.columns_are_looked_up.ensures t) (laws.steady t) c.multiples_are_least.ensures c.requires.point scaled c.in_ok-scale.ensures.some) c.as_slice.result.now (within t values scale c.known.ensures (c.columns_are_looked_up.ensures t) (laws.steady t) c.multiples_are_least.ensures c.requires.point scaled c.in_ok-scale.ensures.some c.as_slice.result.now are))
+    (exist t values scale.ticks (c.columns_are_looked_up.ensures t) c.known.ensures (steady t values scale c.known.ensures (c.columns_are_looked_up.ensures t) (laws.steady t) c.multiples_are_least.ensures c.requires.point scaled c.in_ok-scale.ensures.some) c.as_slice.result.now (within t values scale c.known.ensures (c.columns_are_looked_up.ensures t) (laws.steady t) c.multiples_are_least.ensures c.requires.point scaled c.in_ok-scale.ensures.some c.as_slice.result.now are))
 
-pub slots-requires-clause-apart : goal.slots-requires-clause-apart
-slots-requires-clause-apart c = rw c.in_ok-weights.ensures (are_apart c.args.timed.now c.known.ensures c.as_slice.result.now)
+pub parts_of-requires-clause-apart : goal.parts_of-requires-clause-apart
+parts_of-requires-clause-apart c = (are_apart c.args.timed.now c.known.ensures c.as_slice.result.now)
 
-pub slots-requires-clause-within : goal.slots-requires-clause-within
-slots-requires-clause-within c =
+pub parts_of-requires-clause-within : goal.parts_of-requires-clause-within
+parts_of-requires-clause-within c =
     let t = c.args.timed.now in
     let values = c.args.values.now in
     let scale = c.in_ok-scale.scale in
     let laws = c.points_are_steady.ensures in
-    let columns = c.as_slice-columns.ensures ∙ c.in_ok-columns.ensures.value in
+    let columns = c.requires.columns in
     let answered = rw columns at c.in_ok-scale.ensures.value in
     let scaled : scale_of t (columns_of t) values ≡ Ok scale = sym answered in
     let are : AreRoutes (flow_of t values scale.ticks) 0 c.as_slice.result.now = rw c.as_slice.ensures c.in_ok-routes.ensures.routes in
-    rw c.in_ok-weights.ensures (are_within t values scale.ticks (c.columns_are_looked_up.ensures t) c.known.ensures (steady t values scale c.known.ensures (c.columns_are_looked_up.ensures t) (laws.steady t) c.multiples_are_least.ensures c.requires.point scaled c.in_ok-scale.ensures.some) c.as_slice.result.now (within t values scale c.known.ensures (c.columns_are_looked_up.ensures t) (laws.steady t) c.multiples_are_least.ensures c.requires.point scaled c.in_ok-scale.ensures.some c.as_slice.result.now are))
+    (are_within t values scale.ticks (c.columns_are_looked_up.ensures t) c.known.ensures (steady t values scale c.known.ensures (c.columns_are_looked_up.ensures t) (laws.steady t) c.multiples_are_least.ensures c.requires.point scaled c.in_ok-scale.ensures.some) c.as_slice.result.now (within t values scale c.known.ensures (c.columns_are_looked_up.ensures t) (laws.steady t) c.multiples_are_least.ensures c.requires.point scaled c.in_ok-scale.ensures.some c.as_slice.result.now are))
 
 pub table_with-requires : goal.table_with-requires
 table_with-requires c =
@@ -112,13 +112,13 @@ table_with-requires c =
     let values = c.args.values.now in
     let scale = c.in_ok-scale.scale in
     let laws = c.points_are_steady.ensures in
-    let columns = c.as_slice-columns.ensures ∙ c.in_ok-columns.ensures.value in
+    let columns = c.requires.columns in
     let answered = rw columns at c.in_ok-scale.ensures.value in
     let scaled : scale_of t (columns_of t) values ≡ Ok scale = sym answered in
     let are : AreRoutes (flow_of t values scale.ticks) 0 c.as_slice.result.now = rw c.as_slice.ensures c.in_ok-routes.ensures.routes in
     let routes : c.as_slice-2.result.now ≡ c.as_slice.result.now = c.as_slice-2.ensures ∙ sym c.as_slice.ensures in
-    let parts : AreParts (weights_of t c.as_slice.result.now) scale.ticks c.as_slice-3.result.now = rw c.as_slice-3.ensures.value (rw c.in_ok-weights.ensures at c.in_ok-parts.ensures.parts) in
-    rw routes (is_solution t values scale c.known.ensures (c.columns_are_looked_up.ensures t) (laws.steady t) c.multiples_are_least.ensures c.requires.point scaled c.in_ok-scale.ensures.some c.as_slice.result.now are c.as_slice-3.result.now parts)
+    let parts : AreParts (weights_of t c.as_slice.result.now) scale.ticks c.deref.result.now = rw c.deref.ensures.value c.in_ok-parts.ensures.parts in
+    rw routes (is_solution t values scale c.known.ensures (c.columns_are_looked_up.ensures t) (laws.steady t) c.multiples_are_least.ensures c.requires.point scaled c.in_ok-scale.ensures.some c.as_slice.result.now are c.deref.result.now parts)
 
 pub returns-clause-made : goal.returns-clause-made
 returns-clause-made c =
@@ -126,14 +126,14 @@ returns-clause-made c =
     let values = c.args.values.now in
     let scale = c.in_ok-scale.scale in
     let laws = c.points_are_steady.ensures in
-    let columns = c.as_slice-columns.ensures ∙ c.in_ok-columns.ensures.value in
+    let columns = c.requires.columns in
     let answered = rw columns at c.in_ok-scale.ensures.value in
     let scaled : scale_of t (columns_of t) values ≡ Ok scale = sym answered in
     let routes = c.as_slice.result.now in
-    let parts = c.as_slice-3.result.now in
+    let parts = c.deref.result.now in
     let are : AreRoutes (flow_of t values scale.ticks) 0 routes = rw c.as_slice.ensures c.in_ok-routes.ensures.routes in
     let again : c.as_slice-2.result.now ≡ routes = c.as_slice-2.ensures ∙ sym c.as_slice.ensures in
-    let are_parts : AreParts (weights_of t routes) scale.ticks parts = rw c.as_slice-3.ensures.value (rw c.in_ok-weights.ensures at c.in_ok-parts.ensures.parts) in
+    let are_parts : AreParts (weights_of t routes) scale.ticks parts = rw c.deref.ensures.value c.in_ok-parts.ensures.parts in
     let table : c.in_ok-table_with.field-0 ≡ table_with t scale routes parts = rw again at c.in_ok-table_with.ensures.value in
     record {
       scale = scale;
@@ -143,7 +143,7 @@ returns-clause-made c =
       first_routes = rw c.as_slice.ensures c.in_ok-routes.ensures.chosen;
       parts = parts;
       parted = are_parts;
-      first_parts = rw c.as_slice-3.ensures.value (rw c.in_ok-weights.ensures at c.in_ok-parts.ensures.chosen);
+      first_parts = rw c.deref.ensures.value c.in_ok-parts.ensures.chosen;
       same = table;
     }
 
@@ -153,14 +153,14 @@ returns-clause-rate c =
     let values = c.args.values.now in
     let scale = c.in_ok-scale.scale in
     let laws = c.points_are_steady.ensures in
-    let columns = c.as_slice-columns.ensures ∙ c.in_ok-columns.ensures.value in
+    let columns = c.requires.columns in
     let answered = rw columns at c.in_ok-scale.ensures.value in
     let scaled : scale_of t (columns_of t) values ≡ Ok scale = sym answered in
     let routes = c.as_slice.result.now in
-    let parts = c.as_slice-3.result.now in
+    let parts = c.deref.result.now in
     let are : AreRoutes (flow_of t values scale.ticks) 0 routes = rw c.as_slice.ensures c.in_ok-routes.ensures.routes in
     let again : c.as_slice-2.result.now ≡ routes = c.as_slice-2.ensures ∙ sym c.as_slice.ensures in
-    let are_parts : AreParts (weights_of t routes) scale.ticks parts = rw c.as_slice-3.ensures.value (rw c.in_ok-weights.ensures at c.in_ok-parts.ensures.parts) in
+    let are_parts : AreParts (weights_of t routes) scale.ticks parts = rw c.deref.ensures.value c.in_ok-parts.ensures.parts in
     let table : c.in_ok-table_with.field-0 ≡ table_with t scale routes parts = rw again at c.in_ok-table_with.ensures.value in
     let counts = sum_by (λ (route : Route). route.count) routes in
     let solution = is_solution t values scale c.known.ensures (c.columns_are_looked_up.ensures t) (laws.steady t) c.multiples_are_least.ensures c.requires.point scaled c.in_ok-scale.ensures.some routes are parts are_parts in
@@ -174,4 +174,4 @@ returns-clause-rate c =
 
 pub returns-clause-valid : goal.returns-clause-valid
 returns-clause-valid c =
-    rw c.requires.tasking (λ n. c.table_schedules_hold.ensures.valid c.args.timed.now Tasking c.in_ok-table_with.field-0 n c.known.ensures c.in_ok-table_with.ensures.fits c.in_ok-table_with.ensures.ports)
+    (λ n. c.table_schedules_hold.ensures.valid c.args.timed.now Tasking c.in_ok-table_with.field-0 n c.known.ensures c.in_ok-table_with.ensures.fits c.in_ok-table_with.ensures.ports)
