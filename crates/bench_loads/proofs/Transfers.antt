@@ -1,6 +1,5 @@
 -- The transfers of a chain, in which each node sends to the next.
-use Rattle.std.proofs.Common.{◌≡◌, ℕ, zero, suc, ◌+◌, ◌<◌, ◌≤◌, cond, nat_eq, ◌&&◌, Some, List, [], ◌∷◌, ◌++◌, All, length, length-append, get_or, arith, refl, sym, ◌∙◌, ap, subst, inl, inr}
-use Rattle.std.specs.List.{slice_get}
+use Rattle.std.proofs.Common.{◌≡◌, ℕ, suc, ◌+◌, ◌<◌, ◌≤◌, cond, nat_eq, List, [], ◌∷◌, ◌++◌, length, length-append, get_or, arith, refl, sym, ◌∙◌, ap, inl, inr}
 use Rattle.std.proofs.lemmas.Bool.{cases_eq, cases_lt, eq-eqb, ne_eqb}
 use Rattle.std.proofs.lemmas.List.{get_or_push, get_or_append_left}
 use Rattle.std.proofs.lemmas.List.Elements.{All-from_get_or}
@@ -8,7 +7,6 @@ use Rattle.std.proofs.lemmas.List.Sums.{sum_by_push}
 use Rattle.std.proofs.lemmas.Option.{get_or_from_slice_get, slice_get_within}
 use Rattle.bipartite_slots.specs.Parts.{leaving, entering, Exist, AreApart, AreWithin}
 use Rattle.bipartite_slots.specs.declared.weights.Edge.{Edge}
-use Rattle.bipartite_slots.specs.declared.weights.Weights.{Weights}
 
 -- n transfers, the k-th from node k to the next, each of at most 20000 ticks
 pub record AreInChain (n : ℕ) (edges : List Edge) : Type 0 where

@@ -60,15 +60,18 @@ fn print_all<R: Print + AllocGlobal>(rt: &R) -> io::Result<()> {
     )
 }
 
+/// Says which words there are.
+fn print_usage<R: Eprint + AllocGlobal>(rt: &R) -> io::Result<ExitCode> {
+    eprintln!(rt; "usage: bench_loads all | (simplex | slots | schedule) SIZE [TIMES]")?;
+    Ok(ExitCode::from(2))
+}
+
 /// Does what the words ask for, or says which words there are.
 fn print_work<R: Print + Eprint + AllocGlobal>(rt: &R, words: &[String]) -> io::Result<ExitCode> {
     match work_in(words) {
         Some(Work::All) => print_all(rt)?,
         Some(Work::One(load, size)) => print_load(rt, load, size)?,
-        None => {
-            eprintln!(rt; "usage: bench_loads all | (simplex | slots | schedule) SIZE [TIMES]")?;
-            return Ok(ExitCode::from(2));
-        }
+        None => return print_usage(rt),
     }
     Ok(ExitCode::SUCCESS)
 }

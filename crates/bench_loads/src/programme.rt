@@ -80,13 +80,13 @@ fn push_behind(
     Ok(())
 }
 
-/// Appends the rows of the ports: what a node sends, and then what it receives, takes at most the tick.
-fn push_ports(alloc: Global, rows: &mut Listed<Row>, workers: u32) -> Result<(), NoMemory>
+/// Appends a row for each link: what it carries takes at most the tick.
+fn push_costs(alloc: Global, rows: &mut Listed<Row>, workers: u32) -> Result<(), NoMemory>
     requires few { workers ≤ 1000 }
     requires behind { workers ≤ length rows.old }
     requires chain { IsChain workers rows.old }
     ensures chain { OnOk result (IsChain workers rows.new) }
-    ensures length { OnOk result (length rows.new ≡ length rows.old + 2 * workers + 2) }
+    ensures length { OnOk result (length rows.new ≡ length rows.old + workers) }
 {
     for worker in 0..workers {
         push_behind(
@@ -97,18 +97,21 @@ fn push_ports(alloc: Global, rows: &mut Listed<Row>, workers: u32) -> Result<(),
             1,
         )?;
     }
-    push_behind(alloc, rows, workers, &[], 1)?;
-    push_behind(alloc, rows, workers, &[], 1)?;
-    for worker in 0..workers {
-        push_behind(
-            alloc,
-            rows,
-            workers,
-            &[(workers + worker, cost_of(worker))],
-            1,
-        )?;
-    }
     Ok(())
+}
+
+/// Appends the rows of the ports: what a node sends, and then what it receives, takes at most the tick.
+fn push_ports(alloc: Global, rows: &mut Listed<Row>, workers: u32) -> Result<(), NoMemory>
+    requires few { workers ≤ 1000 }
+    requires behind { workers ≤ length rows.old }
+    requires chain { IsChain workers rows.old }
+    ensures chain { OnOk result (IsChain workers rows.new) }
+    ensures length { OnOk result (length rows.new ≡ length rows.old + 2 * workers + 2) }
+{
+    push_costs(alloc, rows, workers)?;
+    push_behind(alloc, rows, workers, &[], 1)?;
+    push_behind(alloc, rows, workers, &[], 1)?;
+    push_costs(alloc, rows, workers)
 }
 
 /// Appends the rows of supply: a worker computes and sends at most what it receives.

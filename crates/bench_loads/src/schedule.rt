@@ -4,7 +4,7 @@ ghost use Rattle.std.specs.Prelude.{◌≡◌, ◌*◌, length, IfOk};
 
 use crate::load::Size;
 use listed::{Listed, NoMemory};
-use platform_file::{read_platform, timed};
+use platform_file::{Timed, read_platform, timed};
 use schedule_model::{Op, Schedule, Series, check_schedule};
 use std::alloc::Global;
 
@@ -37,14 +37,29 @@ fn long_schedule(alloc: Global, pairs: u32) -> Result<Schedule, NoMemory>
     })
 }
 
-/// What the check of a schedule of so many pairs answers, made as often as said; nothing where it isn't made at all.
-pub fn completed(alloc: Global, size: Size) -> Option<u64> {
+/// The platform of one worker, in ticks.
+fn one_worker(alloc: Global) -> Option<Timed> {
     let platform = read_platform(alloc, ONE_WORKER.as_bytes()).ok()?;
-    let timed = timed(alloc, platform).ok()?;
-    let schedule = long_schedule(alloc, size.parts).ok()?;
+    timed(alloc, platform).ok()
+}
+
+/// What the check of a schedule answers, made as often as said; nothing where it isn't made at all.
+fn last_count(timed: &Timed, schedule: &Schedule, times: u32) -> Option<u64> {
     let mut count = None;
-    for _ in 0..size.times {
-        count = Some(check_schedule(&timed, Series::Tasking, &schedule).ok()?);
+    for _ in 0..times {
+        count = Some(check_schedule(timed, Series::Tasking, schedule).ok()?);
     }
     count
+}
+
+/// What the check of a schedule of so many pairs answers over a platform.
+fn completed_over(alloc: Global, timed: &Timed, size: Size) -> Option<u64> {
+    let schedule = long_schedule(alloc, size.parts).ok()?;
+    last_count(timed, &schedule, size.times)
+}
+
+/// What the check of a schedule of so many pairs answers, made as often as said; nothing where it isn't made at all.
+pub fn completed(alloc: Global, size: Size) -> Option<u64> {
+    let timed = one_worker(alloc)?;
+    completed_over(alloc, &timed, size)
 }

@@ -37,16 +37,23 @@ fn rate_of(optimum: &Optimum) -> Ratio {
     )
 }
 
+/// The best rate of a bounded programme, solved as often as said; nothing where it isn't solved at all.
+fn last_rate(alloc: Global, lp: &Lp, times: u32) -> Option<Ratio>
+    requires { IsBounded lp.now }
+{
+    let mut rate = None;
+    for _ in 0..times {
+        let optimum = solved(alloc, lp, MOST_PIVOTS).ok()?;
+        rate = Some(rate_of(&optimum));
+    }
+    rate
+}
+
 /// The best rate of a chain of so many workers, solved as often as said; nothing where it isn't solved at all.
 pub fn best_rate(alloc: Global, size: Size) -> Option<Ratio> {
     if size.parts == 0 || size.parts > MOST_WORKERS {
         return None;
     }
     let lp = chain(alloc, size.parts).ok()?;
-    let mut rate = None;
-    for _ in 0..size.times {
-        let optimum = solved(alloc, &lp, MOST_PIVOTS).ok()?;
-        rate = Some(rate_of(&optimum));
-    }
-    rate
+    last_rate(alloc, &lp, size.times)
 }

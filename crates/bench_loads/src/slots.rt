@@ -38,15 +38,26 @@ fn transfers(alloc: Global, nodes: u32) -> Result<Weights, NoMemory>
     Ok(Weights { nodes, edges })
 }
 
+/// Into how many slots a period is cut, as often as said; nothing where it isn't cut at all.
+fn last_count(alloc: Global, weights: &Weights, times: u32) -> Option<usize>
+    requires some { 1 ≤ weights.now.nodes }
+    requires few { weights.now.nodes ≤ 1000 }
+    requires exist { Exist weights.now }
+    requires apart { AreApart weights.now.edges }
+    requires within { AreWithin weights.now 20000 }
+{
+    let mut count = None;
+    for _ in 0..times {
+        count = Some(slots(alloc, weights, PERIOD).ok()?.len());
+    }
+    count
+}
+
 /// Into how many slots the period of a chain of so many nodes is cut, as often as said; nothing where it isn't cut at all.
 pub fn slot_count(alloc: Global, size: Size) -> Option<usize> {
     if size.parts == 0 || size.parts > 1000 {
         return None;
     }
     let weights = transfers(alloc, size.parts).ok()?;
-    let mut count = None;
-    for _ in 0..size.times {
-        count = Some(slots(alloc, &weights, PERIOD).ok()?.len());
-    }
-    count
+    last_count(alloc, &weights, size.times)
 }

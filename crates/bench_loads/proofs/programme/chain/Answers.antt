@@ -1,4 +1,4 @@
-use Rattle.std.proofs.Common.{◌≡◌, ◌+◌, ◌*◌, ◌≤◌, length, arith, sym, subst}
+use Rattle.std.proofs.Common.{◌≤◌, length, arith, sym, subst}
 use Rattle.linear_program.specs.Duality.{IsBounded}
 use Rattle.bench_loads.proofs.Pushes.{chain_bounded}
 use Rattle.bench_loads.proofs.programme.chain.Goals as goal

@@ -1,7 +1,6 @@
-use Rattle.std.proofs.Common.{rules, ◌≡◌, ◌*◌, ◌≤◌, ℤ, pos, [], ◌∷◌, sym, subst, arith, SFits}
+use Rattle.std.proofs.Common.{rules, sym, subst, SFits}
 use Rattle.std.specs.Int.{w128}
 use Rattle.std.proofs.lemmas.Int.{to_z-of_z}
-use Rattle.linear_program.specs.Programmes.{RowView, IsRow}
 use Rattle.bench_loads.specs.Chains.{IsChain}
 use Rattle.bench_loads.proofs.Pushes.{time_pushed, time_row}
 use Rattle.bench_loads.proofs.programme.push_time.Goals as goal

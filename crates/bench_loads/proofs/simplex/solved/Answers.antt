@@ -1,4 +1,4 @@
-use Rattle.std.proofs.Common.{◌≡◌, sym, ◌∙◌, ap}
+use Rattle.std.proofs.Common.{sym, ◌∙◌, ap}
 use Rattle.exact_simplex.specs.Answers.{answer_of}
 use Rattle.exact_simplex.specs.Bland.{bland_run}
 use Rattle.bench_loads.proofs.simplex.solved.Goals as goal

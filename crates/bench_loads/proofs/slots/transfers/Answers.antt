@@ -1,4 +1,4 @@
-use Rattle.std.proofs.Common.{◌≡◌, ℕ, suc, ◌+◌, ◌-◌, ◌≤◌, add-one, arith, sym, ◌∙◌, ap, subst}
+use Rattle.std.proofs.Common.{◌≡◌, ℕ, suc, ◌-◌, ◌≤◌, add-one, arith, sym, subst}
 use Rattle.bipartite_slots.specs.Parts.{Exist, AreWithin}
 use Rattle.bench_loads.proofs.Transfers.{AreInChain, empty_chain, longer_chain, chain_exists, chain_within, chain_apart}
 use Rattle.bench_loads.proofs.slots.transfers.Goals as goal
