@@ -1,0 +1,9 @@
+use Rattle.std.proofs.Common.{◌≡◌, ◌+◌, length}
+use Rattle.bench_loads.specs.Chains.{IsChain}
+use Rattle.bench_loads.proofs.programme.push_supply.Given as goal
+
+abbrev pub invariant-loop-worker : goal.invariant-loop-worker
+invariant-loop-worker l = record {
+  chain : IsChain l.workers l.rows;
+  size : length l.rows ≡ length l.initial.rows + l.worker;
+}

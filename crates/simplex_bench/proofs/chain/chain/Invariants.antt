@@ -1,9 +1,0 @@
-use Rattle.std.proofs.Common.{◌≡◌, length}
-use Rattle.simplex_bench.specs.Chains.{IsChain}
-use Rattle.simplex_bench.proofs.chain.chain.Given as goal
-
-abbrev pub invariant-loop-worker : goal.invariant-loop-worker
-invariant-loop-worker l = record {
-  chain : IsChain l.workers l.rows;
-  size : length l.rows ≡ l.worker;
-}
