@@ -1,3 +1,4 @@
+use Rattle.std.proofs.Common.{rules}
 use Rattle.ratio_core.proofs.GcdLemmas.{gcd_positive}
 use Rattle.ratio_core.proofs.Multiples.{searched_multiple}
 use Rattle.ratio_core.proofs.ratio.lcm_within.Goals as goal
@@ -10,3 +11,6 @@ returns-then-share-max-clause-least c = searched_multiple c.args.a c.args.b c.re
 
 pub returns-else-share-max-clause-least : goal.returns-else-share-max-clause-least
 returns-else-share-max-clause-least c = searched_multiple c.args.a c.args.b c.requires.first c.requires.second
+
+pub returns-else-share-max-clause-value : goal.returns-else-share-max-clause-value
+returns-else-share-max-clause-value c = search rules

@@ -1,6 +1,7 @@
 use Rattle.std.proofs.Common.{rules, ◌≡◌, ◌+◌, ◌-◌, ◌*◌, ◌<◌, ◌≤◌, ◌^◌, get_or, arith, sym, ◌∙◌, ℕ}
 use Rattle.std.proofs.Common.{inl, inr}
 use Rattle.std.proofs.lemmas.Bool.{cases_lt}
+use Rattle.std.proofs.lemmas.Grind.{common_steps}
 use Rattle.text_lines.proofs.Digits.{too_great, digit_there}
 use Rattle.text_lines.proofs.numbers.value_within.Goals as goal
 
@@ -23,3 +24,6 @@ returns-in_err-value c =
     let over : 2 ^ 128 ≤ c.in_ok-checked_mul.field-0 + c.from.result = not_below _ (λ l. c.in_err-value.ensures (omega (arith, l))) in
     c.from_residual-in_err-value.ensures
     ∙ sym (too_great c.args.most c.loop-digit.value c.args.digits.now c.loop-digit.digit-index c.loop-digit-test.true c.loop-digit.invariant (omega (arith, fits, over, product, digit, worth)))
+
+pub returns-else-value-most : goal.returns-else-value-most
+returns-else-value-most c = grind (arith, common_steps)
