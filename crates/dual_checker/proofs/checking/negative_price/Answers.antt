@@ -13,3 +13,6 @@ returns-then-prices-row-lt0 c =
     let fits : SFits w128 (slice_index_or prices row (pos 0)) = search rules in
     let below : int_lt (price_at prices row) (pos 0) ≡ true = rw (to_z-of_z _ _ fits) at c.if-prices-row-lt0.true in
     sym (first_found (length prices) row (λ k. int_lt (price_at prices k) (pos 0)) c.loop-row-test.true c.loop-row.invariant below)
+
+pub loop-row-init : goal.loop-row-init
+loop-row-init c = search rules
