@@ -1,7 +1,6 @@
 //! Certificates checked, printed and read again.
 
-ghost use Rattle.std.specs.Prelude.{◌≡◌, ◌∷◌, [], length, IfOk};
-ghost use Rattle.linear_program.specs.Programmes.{RowView};
+ghost use Rattle.std.specs.Prelude.{◌≡◌, ◌∷◌, [], pos, negsuc, length, IfOk};
 
 use dual_checker::{Verdict, check, print_certificate, read_certificate};
 use linear_program::{Certificate, Lp, Row};
@@ -21,7 +20,7 @@ fn row(alloc: Global, first: i128, second: i128, rhs: i128) -> Result<Row, Fail>
 }
 
 fn rows(alloc: Global) -> Result<Listed<Row>, Fail>
-    ensures { IfOk result (λ rows. rows ≡ record { cells = (0, 2) ∷ (1, 1) ∷ []; rhs = 1 } ∷ record { cells = (0, 1) ∷ (1, -1) ∷ []; rhs = 0 } ∷ []) }
+    ensures { IfOk result (λ rows. rows ≡ record { cells = (0, pos 2) ∷ (1, pos 1) ∷ []; rhs = pos 1 } ∷ record { cells = (0, pos 1) ∷ (1, negsuc 0) ∷ []; rhs = pos 0 } ∷ []) }
 {
     let mut rows = Listed::new(alloc);
     rows.push(row(alloc, 2, 1, 1)?)?;
@@ -30,7 +29,7 @@ fn rows(alloc: Global) -> Result<Listed<Row>, Fail>
 }
 
 fn gain(alloc: Global) -> Result<Listed<i128>, Fail>
-    ensures { IfOk result (λ gain. gain ≡ 1 ∷ 0 ∷ []) }
+    ensures { IfOk result (λ gain. gain ≡ pos 1 ∷ pos 0 ∷ []) }
 {
     let mut gain = Listed::new(alloc);
     gain.push(1i128)?;
