@@ -4,8 +4,6 @@
 mod command;
 mod finding;
 mod reading;
-#[cfg(test)]
-mod tests;
 
 pub use command::{Command, WordsFault};
 pub use reading::command_in;

@@ -5,8 +5,6 @@ mod checking;
 mod laws;
 mod printing;
 mod reading;
-#[cfg(test)]
-mod tests;
 mod verdict;
 
 pub use checking::check;

@@ -7,8 +7,6 @@ mod laws;
 mod printing;
 mod reading;
 mod rows;
-#[cfg(test)]
-mod tests;
 mod walks;
 
 pub use fault::PlanTextFault;

@@ -4,8 +4,6 @@
 mod fault;
 mod planning;
 mod status;
-#[cfg(test)]
-mod tests;
 mod top;
 
 pub use fault::{CheckFault, ReadingFault, TopFault};

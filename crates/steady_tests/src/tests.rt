@@ -1,0 +1,10 @@
+mod audits;
+mod certificates;
+mod devices;
+mod planning;
+mod plans;
+mod platform_faults;
+mod platforms;
+mod refusals;
+mod runs;
+mod words;

@@ -1,0 +1,5 @@
+//! Tests of the texts that the program reads and writes: certificates, plans and words.
+#![tactic(auto)]
+
+#[cfg(test)]
+mod tests;
