@@ -18,8 +18,6 @@ use std::rt::Env;
 use std::{env, io};
 
 mod chain;
-#[cfg(test)]
-mod tests;
 
 /// The most pivots of a run.
 const MOST_PIVOTS: u64 = 100000;
