@@ -1,14 +1,14 @@
-//! What the tests compare with, and the failure that names a row.
+//! Failures that name a row.
 
 use std::fmt::Debug;
 use std::test::Fail;
 
-/// Fails where a value isn't the wanted one, and names the row that it was found at.
-pub fn is<T: PartialEq + Debug, R: Debug>(found: &T, wanted: &T, row: &R) -> Result<(), Fail> {
-    if found == wanted {
+/// Fails where something doesn't hold, and names it.
+pub fn holds(it: bool, name: &str) -> Result<(), Fail> {
+    if it {
         return Ok(());
     }
-    Err(Fail::new(format_args!("at {row:?}: {found:?}, and not {wanted:?}")))
+    Err(name.into())
 }
 
 /// Fails at a row.

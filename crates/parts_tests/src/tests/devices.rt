@@ -1,21 +1,28 @@
 //! Files and sinks, in memory and outside, with calls that fail.
 
-use crate::tests::comparing::is;
+use crate::tests::comparing::{fails_at, holds};
 use outside_io::{
     Failed, MemoryFiles, MemorySink, ReadEnd, StdFiles, StdSink, read_whole, write_whole,
 };
 use std::alloc::Global;
-use std::fmt::Debug;
 use std::test::Fail;
 use std::{fs, io};
 
-fn entries(alloc: Global) -> Result<Vec<(String, Vec<u8>)>, Fail> {
-    let mut files = Vec::new(alloc);
-    files.push((
+fn long(alloc: Global) -> Result<(String, Vec<u8>), Fail> {
+    Ok((
         String::from_str(alloc, "long")?,
         vec![in alloc; 7u8; 70000]?,
-    ))?;
-    files.push((String::from_str(alloc, "short")?, b"abc".to_vec(alloc)?))?;
+    ))
+}
+
+fn short(alloc: Global) -> Result<(String, Vec<u8>), Fail> {
+    Ok((String::from_str(alloc, "short")?, b"abc".to_vec(alloc)?))
+}
+
+fn entries(alloc: Global) -> Result<Vec<(String, Vec<u8>)>, Fail> {
+    let mut files = Vec::new(alloc);
+    files.push(long(alloc)?)?;
+    files.push(short(alloc)?)?;
     Ok(files)
 }
 
@@ -25,26 +32,18 @@ fn two_files(alloc: Global, failing: &[u64]) -> Result<MemoryFiles, Fail> {
 }
 
 /// How many bytes a file has, where it has at most so many.
-fn length(alloc: Global, files: &mut MemoryFiles, name: &str, most: u64) -> Result<usize, ReadEnd> {
-    Ok(read_whole(alloc, files, name, most)?.len())
+fn length(alloc: Global, files: &mut MemoryFiles, name: &str, most: u32) -> Result<usize, ReadEnd> {
+    Ok(read_whole(alloc, files, name, u64::from(most))?.len())
 }
 
-/// Fails where the short file isn't read whole.
-fn reads_short<R: Debug>(
-    alloc: Global,
-    files: &mut MemoryFiles,
-    most: u64,
-    row: &R,
-) -> Result<(), Fail> {
-    is(
-        &read_whole(alloc, files, "short", most)?.as_slice(),
-        &b"abc".as_slice(),
-        row,
-    )
+/// Whether the short file is read whole.
+fn reads_short(alloc: Global, files: &mut MemoryFiles, most: u32) -> Result<bool, Fail> {
+    let bytes = read_whole(alloc, files, "short", u64::from(most))?;
+    Ok(bytes.as_slice() == b"abc".as_slice())
 }
 
 /// A name, the most bytes that are wanted, and how many are read or why they aren't.
-const READS: [(&str, u64, Result<usize, ReadEnd>); 5] = [
+const READS: [(&str, u32, Result<usize, ReadEnd>); 5] = [
     ("long", 70000, Ok(70000)),
     ("short", 3, Ok(3)),
     ("long", 69999, Err(ReadEnd::Longer)),
@@ -54,9 +53,11 @@ const READS: [(&str, u64, Result<usize, ReadEnd>); 5] = [
 
 fn reads_each(alloc: Global, files: &mut MemoryFiles) -> Result<(), Fail> {
     for row in &READS {
-        is(&length(alloc, files, row.0, row.1), &row.2, row)?;
+        if length(alloc, files, row.0, row.1) != row.2 {
+            return fails_at(row);
+        }
     }
-    reads_short(alloc, files, 9, &"short")
+    holds(reads_short(alloc, files, 9)?, "short")
 }
 
 #[test]
@@ -65,12 +66,11 @@ fn reads_to_the_end(rt: HostRuntime) -> Result<(), Fail> {
 }
 
 fn fails_once(alloc: Global, files: &mut MemoryFiles, call: u64) -> Result<(), Fail> {
-    is(
-        &length(alloc, files, "long", 70000),
-        &Err(ReadEnd::Failed),
-        &call,
-    )?;
-    reads_short(alloc, files, 3, &call)
+    let long = length(alloc, files, "long", 70000);
+    if long != Err(ReadEnd::Failed) || !reads_short(alloc, files, 3)? {
+        return fails_at(&call);
+    }
+    Ok(())
 }
 
 fn fails_at_call(alloc: Global, call: u64) -> Result<(), Fail> {
@@ -114,8 +114,10 @@ fn sink(alloc: Global, most: usize, failing: &[u64], room: usize) -> Result<Memo
 }
 
 fn writes(out: &mut MemorySink, row: &WriteRow) -> Result<(), Fail> {
-    is(&write_whole(out, TEXT.as_bytes()), &row.3, row)?;
-    is(&out.written(), &row.4.as_bytes(), row)
+    if write_whole(out, TEXT.as_bytes()) != row.3 || out.written() != row.4.as_bytes() {
+        return fails_at(row);
+    }
+    Ok(())
 }
 
 fn writes_row(alloc: Global, row: &WriteRow) -> Result<(), Fail> {
@@ -134,32 +136,44 @@ fn writes_whole_or_a_front(rt: HostRuntime) -> Result<(), Fail> {
 const OUTSIDE: &str = "outside_io.txt";
 
 /// Reads the file whole, at most so many bytes of it.
-fn read_outside(rt: &HostRuntime, most: u64) -> Result<Vec<u8>, ReadEnd> {
-    read_whole(rt.alloc(), &mut StdFiles::new(rt), OUTSIDE, most)
+fn read_outside(rt: &HostRuntime, most: u32) -> Result<Vec<u8>, ReadEnd> {
+    read_whole(rt.alloc(), &mut StdFiles::new(rt), OUTSIDE, u64::from(most))
 }
 
-fn is_outside(found: &[u8]) -> Result<(), Fail> {
-    is(&found, &b"one two\n".as_slice(), &OUTSIDE)
+fn is_outside(rt: &HostRuntime, most: u32) -> Result<bool, Fail> {
+    Ok(read_outside(rt, most)?.as_slice() == b"one two\n".as_slice())
 }
 
-fn refuses_outside(rt: &HostRuntime, most: u64, end: ReadEnd) -> Result<(), Fail> {
-    is(
-        &read_outside(rt, most).map(|bytes| bytes.len()),
-        &Err(end),
-        &most,
-    )
+fn reads_outside(rt: &HostRuntime) -> Result<(), Fail> {
+    fs::write(rt, OUTSIDE, "one two\n")?;
+    holds(is_outside(rt, 100)?, OUTSIDE)
+}
+
+fn refuses_outside(rt: &HostRuntime, most: u32, end: ReadEnd) -> Result<(), Fail> {
+    match read_outside(rt, most) {
+        Err(found) if found == end => Ok(()),
+        _ => fails_at(&(OUTSIDE, most)),
+    }
+}
+
+fn removes_outside(rt: &HostRuntime) -> Result<(), Fail> {
+    fs::remove_file(rt, OUTSIDE)?;
+    refuses_outside(rt, 100, ReadEnd::Failed)
+}
+
+fn writes_outside(rt: &HostRuntime) -> Result<(), Fail> {
+    let ended = write_whole(&mut StdSink::new(io::writer(rt)), b"written outside\n");
+    holds(ended == Ok(()), "standard output")
+}
+
+fn reads_and_writes(rt: &HostRuntime) -> Result<(), Fail> {
+    reads_outside(rt)?;
+    refuses_outside(rt, 3, ReadEnd::Longer)?;
+    removes_outside(rt)?;
+    writes_outside(rt)
 }
 
 #[test]
 fn reads_and_writes_outside(rt: HostRuntime) -> Result<(), Fail> {
-    fs::write(&rt, OUTSIDE, "one two\n")?;
-    is_outside(read_outside(&rt, 100)?.as_slice())?;
-    refuses_outside(&rt, 3, ReadEnd::Longer)?;
-    fs::remove_file(&rt, OUTSIDE)?;
-    refuses_outside(&rt, 100, ReadEnd::Failed)?;
-    is(
-        &write_whole(&mut StdSink::new(io::writer(&rt)), b"written outside\n"),
-        &Ok(()),
-        &"standard output",
-    )
+    reads_and_writes(&rt)
 }

@@ -3,7 +3,7 @@
 ghost use Rattle.std.specs.Prelude.{◌≡◌, [], ◌∷◌, IfOk};
 ghost use Rattle.flow_routes.specs.Flows.{IsFlow};
 
-use crate::tests::comparing::is;
+use crate::tests::comparing::fails_at;
 use crate::tests::models::listed_of;
 use flow_routes::{Flow, Route, routes};
 use std::alloc::Global;
@@ -25,14 +25,21 @@ fn flow(alloc: Global, amounts: &[u128; 3], demands: &[u128; 3]) -> Result<Flow,
 /// A route's links, its end, its count and its kind.
 type RouteRow = (&'static [u32], u32, u128, u32);
 
-fn row_of(route: &Route) -> (&[u32], u32, u128, u32) {
-    (route.links.as_slice(), route.end, route.count, route.kind)
+fn is_route(route: &Route, row: &RouteRow) -> bool {
+    route.links.as_slice() == row.0
+        && route.end == row.1
+        && route.count == row.2
+        && route.kind == row.3
 }
 
 fn are_routes(routes: &[Route], rows: &[RouteRow]) -> Result<(), Fail> {
-    is(&routes.len(), &rows.len(), &rows)?;
+    if routes.len() != rows.len() {
+        return fails_at(&rows);
+    }
     for (route, row) in routes.iter().zip(rows) {
-        is(&row_of(route), row, row)?;
+        if !is_route(route, row) {
+            return fails_at(row);
+        }
     }
     Ok(())
 }

@@ -1,6 +1,7 @@
 //! Lines, words and numbers of texts.
 
-use crate::tests::comparing::is;
+use crate::tests::comparing::{fails_at, holds};
+use std::alloc::Global;
 use std::test::Fail;
 use text_lines::{
     behind, first_line, integer_of, natural_of, number_of, numbers_are_read_as_printed, parted,
@@ -10,11 +11,22 @@ use text_lines::{
 /// A text, and what stands before and behind a byte in it.
 type PartRow = (&'static str, Option<(&'static str, &'static str)>);
 
-fn are(found: Option<(&[u8], &[u8])>, row: &PartRow) -> Result<(), Fail> {
-    let wanted = row
-        .1
-        .map(|(left, right)| (left.as_bytes(), right.as_bytes()));
-    is(&found, &wanted, row)
+fn are(found: Option<(&[u8], &[u8])>, wanted: Option<(&str, &str)>) -> bool {
+    match (found, wanted) {
+        (Some((left, right)), Some((before, behind))) => {
+            left == before.as_bytes() && right == behind.as_bytes()
+        }
+        (None, None) => true,
+        _ => false,
+    }
+}
+
+fn is_rest(found: Option<&[u8]>, wanted: Option<&str>) -> bool {
+    match (found, wanted) {
+        (Some(rest), Some(text)) => rest == text.as_bytes(),
+        (None, None) => true,
+        _ => false,
+    }
 }
 
 const LINES: [PartRow; 3] = [
@@ -31,7 +43,9 @@ const BEHIND: [(&str, Option<&str>); 2] = [("rows 7", Some("7")), ("row", None)]
 #[test]
 fn reads_lines() -> Result<(), Fail> {
     for row in &LINES {
-        are(first_line(row.0.as_bytes()), row)?;
+        if !are(first_line(row.0.as_bytes()), row.1) {
+            return fails_at(row);
+        }
     }
     Ok(())
 }
@@ -39,7 +53,9 @@ fn reads_lines() -> Result<(), Fail> {
 #[test]
 fn parts_texts() -> Result<(), Fail> {
     for row in &PARTED {
-        are(parted(b':', row.0.as_bytes()), row)?;
+        if !are(parted(b':', row.0.as_bytes()), row.1) {
+            return fails_at(row);
+        }
     }
     Ok(())
 }
@@ -47,8 +63,9 @@ fn parts_texts() -> Result<(), Fail> {
 #[test]
 fn looks_behind_words() -> Result<(), Fail> {
     for row in &BEHIND {
-        let wanted = row.1.map(|rest| rest.as_bytes());
-        is(&behind(b"rows ", row.0.as_bytes()), &wanted, row)?;
+        if !is_rest(behind(b"rows ", row.0.as_bytes()), row.1) {
+            return fails_at(row);
+        }
     }
     Ok(())
 }
@@ -64,15 +81,24 @@ const WORDS: [WordsRow; 5] = [
     ("a  b", 3, "b"),
 ];
 
-fn has_words(words: &[&[u8]], row: &WordsRow) -> Result<(), Fail> {
-    is(&words.len(), &row.1, row)?;
-    is(&words.last(), &Some(&row.2.as_bytes()), row)
+fn has_words(words: &[&[u8]], count: usize, end: &str) -> bool {
+    match words.last() {
+        Some(last) => words.len() == count && *last == end.as_bytes(),
+        None => false,
+    }
+}
+
+fn reads_row(alloc: Global, row: &WordsRow) -> Result<(), Fail> {
+    holds(
+        has_words(words_of(alloc, row.0.as_bytes())?.as_slice(), row.1, row.2),
+        row.0,
+    )
 }
 
 #[test]
 fn reads_words(rt: HostRuntime) -> Result<(), Fail> {
     for row in &WORDS {
-        has_words(words_of(rt.alloc(), row.0.as_bytes())?.as_slice(), row)?;
+        reads_row(rt.alloc(), row)?;
     }
     Ok(())
 }
@@ -99,7 +125,9 @@ const INTEGERS: [(&str, Option<i128>); 14] = [
 fn reads_integers() -> Result<(), Fail> {
     for row in &INTEGERS {
         let found = integer_of(row.0.as_bytes(), 170141183460469231731687303715884105727);
-        is(&found, &row.1, row)?;
+        if found != row.1 {
+            return fails_at(row);
+        }
     }
     Ok(())
 }
@@ -111,7 +139,9 @@ const NATURALS: [(&str, Option<u128>); 2] = [("7", Some(7)), ("8", None)];
 fn reads_naturals() -> Result<(), Fail> {
     numbers_are_read_as_printed();
     for row in &NATURALS {
-        is(&natural_of(row.0.as_bytes(), 7), &row.1, row)?;
+        if natural_of(row.0.as_bytes(), 7) != row.1 {
+            return fails_at(row);
+        }
     }
     Ok(())
 }
@@ -130,7 +160,9 @@ const NUMBERS: [(&str, Option<u128>); 7] = [
 #[test]
 fn reads_digits() -> Result<(), Fail> {
     for row in &NUMBERS {
-        is(&number_of(row.0.as_bytes(), 1000), &row.1, row)?;
+        if number_of(row.0.as_bytes(), 1000) != row.1 {
+            return fails_at(row);
+        }
     }
     Ok(())
 }

@@ -3,7 +3,7 @@
 ghost use Rattle.std.specs.Prelude.{◌≡◌};
 ghost use Rattle.linear_program.specs.Duality.{IsBounded};
 
-use crate::tests::comparing::is;
+use crate::tests::comparing::{fails_at, holds};
 use crate::tests::models::{crossing, halves};
 use crate::tests::programmes::is_optimum;
 use dense_tableau::Dense;
@@ -24,14 +24,17 @@ fn solved(alloc: Global, lp: &Lp, limit: u64) -> Result<Optimum, SolveFault>
 fn refuses(alloc: Global, lp: &Lp, limit: u64, fault: SolveFault) -> Result<(), Fail>
     requires { IsBounded lp.now }
 {
-    is(&solved(alloc, lp, limit).err(), &Some(fault), &limit)
+    match solved(alloc, lp, limit) {
+        Err(found) if found == fault => Ok(()),
+        _ => fails_at(&fault),
+    }
 }
 
 fn solves(alloc: Global, lp: &Lp) -> Result<(), Fail>
     requires { IsBounded lp.now }
 {
     refuses(alloc, lp, 0, SolveFault::Spent { limit: 0 })?;
-    is_optimum(&solved(alloc, lp, 1)?)
+    holds(is_optimum(&solved(alloc, lp, 1)?), "a half")
 }
 
 #[test]

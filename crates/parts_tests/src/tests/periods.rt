@@ -3,7 +3,7 @@
 ghost use Rattle.std.specs.Prelude.{◌≡◌, ◌≤◌, ◌^◌, IfOk};
 ghost use Rattle.bipartite_slots.specs.Parts.{Exist, AreApart, AreWithin};
 
-use crate::tests::comparing::is;
+use crate::tests::comparing::fails_at;
 use crate::tests::models::listed_of;
 use bipartite_slots::{Edge, SlotPart, Weights, slots};
 use std::alloc::Global;
@@ -22,10 +22,18 @@ fn weights(alloc: Global, nodes: u32, edges: &[Edge]) -> Result<Weights, Fail>
 /// A part's duration and its edges.
 type PartRow = (u128, &'static [u32]);
 
+fn is_part(part: &SlotPart, row: &PartRow) -> bool {
+    part.duration == row.0 && part.edges.as_slice() == row.1
+}
+
 fn are_parts(parts: &[SlotPart], rows: &[PartRow]) -> Result<(), Fail> {
-    is(&parts.len(), &rows.len(), &rows)?;
+    if parts.len() != rows.len() {
+        return fails_at(&rows);
+    }
     for (part, row) in parts.iter().zip(rows) {
-        is(&(part.duration, part.edges.as_slice()), row, row)?;
+        if !is_part(part, row) {
+            return fails_at(row);
+        }
     }
     Ok(())
 }

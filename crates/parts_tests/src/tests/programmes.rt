@@ -1,31 +1,30 @@
 //! Programmes, certificates and optima, their laws, and combinations of cells.
 
-use crate::tests::comparing::is;
+use crate::tests::comparing::{fails_at, holds};
 use crate::tests::models::{halves, listed_of};
 use linear_program::{
-    Certificate, Lp, Optimum, PivotFault, combined, pivots_keep_solutions, prices_bound_gains,
+    Certificate, Lp, Optimum, PivotFault, Row, combined, pivots_keep_solutions, prices_bound_gains,
     runs_keep_tables,
 };
-use listed::Listed;
 use ratio_core::Ratio;
 use std::alloc::Global;
 use std::test::Fail;
 
-fn is_halves(lp: &Lp) -> Result<(), Fail> {
-    lp.known();
-    is(&lp.columns(), &1, &"columns")?;
-    is(&lp.gain(), &[1].as_slice(), &"gain")?;
-    is(&lp.rows().len(), &1, &"rows")?;
-    for row in lp.rows() {
-        is(&row.cells(), &[(0, 2)].as_slice(), &"cells")?;
-        is(&row.rhs(), &1, &"right-hand side")?;
+fn is_row(rows: &[Row]) -> bool {
+    match rows {
+        [row] => row.rhs() == 1 && row.cells() == [(0, 2)].as_slice(),
+        _ => false,
     }
-    Ok(())
+}
+
+fn is_halves(lp: &Lp) -> bool {
+    lp.known();
+    lp.columns() == 1 && lp.gain() == [1].as_slice() && is_row(lp.rows())
 }
 
 #[test]
 fn keeps_a_programme(rt: HostRuntime) -> Result<(), Fail> {
-    is_halves(&halves(rt.alloc())?)
+    holds(is_halves(&halves(rt.alloc())?), "halves")
 }
 
 #[test]
@@ -39,11 +38,9 @@ fn certificate(alloc: Global) -> Result<Certificate, Fail> {
     Ok(Certificate::new(2, 1, listed_of(alloc, &[1])?))
 }
 
-fn is_certificate(certificate: &Certificate) -> Result<(), Fail> {
+fn is_certificate(certificate: &Certificate) -> bool {
     certificate.known();
-    is(&certificate.scale(), &2, &"scale")?;
-    is(&certificate.best(), &1, &"best")?;
-    is(&certificate.prices(), &[1].as_slice(), &"prices")
+    certificate.scale() == 2 && certificate.best() == 1 && certificate.prices() == [1].as_slice()
 }
 
 fn optimum(alloc: Global) -> Result<Optimum, Fail> {
@@ -53,24 +50,20 @@ fn optimum(alloc: Global) -> Result<Optimum, Fail> {
     })
 }
 
-/// Fails where an optimum isn't that of a half.
-pub fn is_optimum(optimum: &Optimum) -> Result<(), Fail> {
-    is(
-        &optimum.values.as_slice(),
-        &[Ratio::new(2, 4)].as_slice(),
-        &"values",
-    )?;
-    is_certificate(&optimum.certificate)
+/// Whether an optimum is that of a half.
+pub fn is_optimum(optimum: &Optimum) -> bool {
+    optimum.values.as_slice() == [Ratio::new(2, 4)].as_slice()
+        && is_certificate(&optimum.certificate)
 }
 
 #[test]
 fn keeps_an_optimum(rt: HostRuntime) -> Result<(), Fail> {
-    is_optimum(&optimum(rt.alloc())?)
+    holds(is_optimum(&optimum(rt.alloc())?), "a half")
 }
 
 #[test]
 fn compares_faults() -> Result<(), Fail> {
-    is(&PivotFault::NoMemory, &PivotFault::NoMemory, &"NoMemory")
+    holds(PivotFault::NoMemory == PivotFault::NoMemory, "NoMemory")
 }
 
 const MOST: i128 = i128::MAX;
@@ -91,7 +84,9 @@ const COMBINATIONS: [(i128, i128, i128, i128, Option<i128>); 7] = [
 #[test]
 fn combines_within_bounds() -> Result<(), Fail> {
     for row in &COMBINATIONS {
-        is(&combined(row.0, row.1, row.2, row.3), &row.4, row)?;
+        if combined(row.0, row.1, row.2, row.3) != row.4 {
+            return fails_at(row);
+        }
     }
     Ok(())
 }

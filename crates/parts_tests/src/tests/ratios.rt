@@ -1,6 +1,6 @@
 //! Fractions: their lowest terms, their order, their multiples and products, and their texts.
 
-use crate::tests::comparing::is;
+use crate::tests::comparing::{fails_at, holds};
 use ratio_core::{
     Ratio, RatioFault, cmp_parts, gcd, lcm_within, multiples_are_least, parse_ratio, product_within,
 };
@@ -21,7 +21,9 @@ const DIVISORS: [(u128, u128, u128); 5] = [
 #[test]
 fn finds_greatest_common_divisors() -> Result<(), Fail> {
     for row in &DIVISORS {
-        is(&gcd(row.0, row.1), &row.2, row)?;
+        if gcd(row.0, row.1) != row.2 {
+            return fails_at(row);
+        }
     }
     Ok(())
 }
@@ -48,9 +50,11 @@ const REDUCED: [((u128, u128), (u128, u128)); 3] = [
 #[test]
 fn reduces() -> Result<(), Fail> {
     for row in &REDUCED {
-        is(&reduced(row.0.0, row.0.1), &Some(row.1), row)?;
+        if reduced(row.0.0, row.0.1) != Some(row.1) {
+            return fails_at(row);
+        }
     }
-    is(&parts(&Ratio::from(3u128)), &(3, 1), &3)
+    holds(parts(&Ratio::from(3u128)) == (3, 1), "3")
 }
 
 /// The order of `a / b` and `c / d`; none over 0.
@@ -76,7 +80,9 @@ const ORDERS: [(u128, u128, u128, u128, Ordering); 8] = [
 #[test]
 fn compares_fractions() -> Result<(), Fail> {
     for row in &ORDERS {
-        is(&order(row.0, row.1, row.2, row.3), &Some(row.4), row)?;
+        if order(row.0, row.1, row.2, row.3) != Some(row.4) {
+            return fails_at(row);
+        }
     }
     Ok(())
 }
@@ -103,7 +109,9 @@ const MULTIPLES: [(u128, u128, u128, Option<u128>); 6] = [
 fn finds_least_common_multiples() -> Result<(), Fail> {
     multiples_are_least();
     for row in &MULTIPLES {
-        is(&multiple(row.0, row.1, row.2), &Some(row.3), row)?;
+        if multiple(row.0, row.1, row.2) != Some(row.3) {
+            return fails_at(row);
+        }
     }
     Ok(())
 }
@@ -129,7 +137,9 @@ const PRODUCTS: [(u128, u128, u128, u128, Option<(u128, u128)>); 6] = [
 #[test]
 fn multiplies_within_a_bound() -> Result<(), Fail> {
     for row in &PRODUCTS {
-        is(&product(row.0, row.1, row.2, row.3), &Some(row.4), row)?;
+        if product(row.0, row.1, row.2, row.3) != Some(row.4) {
+            return fails_at(row);
+        }
     }
     Ok(())
 }
@@ -170,8 +180,9 @@ const TEXTS: [(&str, Result<(u128, u128), RatioFault>); 26] = [
 #[test]
 fn reads_fractions() -> Result<(), Fail> {
     for row in &TEXTS {
-        let found = parse_ratio(row.0).map(|ratio| parts(&ratio));
-        is(&found, &row.1, row)?;
+        if parse_ratio(row.0).map(|ratio| parts(&ratio)) != row.1 {
+            return fails_at(row);
+        }
     }
     Ok(())
 }

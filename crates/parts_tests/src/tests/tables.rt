@@ -1,6 +1,6 @@
 //! Pivots of a table of whole rows, as worked out by hand.
 
-use crate::tests::comparing::{fails_at, is};
+use crate::tests::comparing::{fails_at, holds};
 use crate::tests::models::crossing;
 use dense_tableau::Dense;
 use linear_program::{Lp, PivotFault, Tableau};
@@ -16,29 +16,30 @@ fn has_cells(table: &Dense, row: u32, cells: &[i128; 6]) -> Result<(), Fail> {
         return fails_at(&(table.rows(), table.columns()));
     }
     for column in 0..6u32 {
-        is(
-            &table.cell(row, column),
-            &cells[column as usize],
-            &(row, column, cells),
-        )?;
+        if table.cell(row, column) != cells[column as usize] {
+            return fails_at(&(row, column, cells));
+        }
     }
     Ok(())
 }
 
 fn has_basic(table: &Dense, row: u32, basic: u32) -> Result<(), Fail> {
-    if row >= table.rows() {
-        return fails_at(&row);
+    if row >= table.rows() || table.basic(row) != basic {
+        return fails_at(&(row, basic));
     }
-    is(&table.basic(row), &basic, &row)
+    Ok(())
+}
+
+fn has_row(table: &Dense, row: u32, cells: &[i128; 6], basic: u32) -> Result<(), Fail> {
+    has_cells(table, row, cells)?;
+    has_basic(table, row, basic)
 }
 
 fn is_table(table: &Dense, wanted: &TableRow) -> Result<(), Fail> {
-    is(&table.rows(), &3, &"rows")?;
     for row in 0..3u32 {
-        has_cells(table, row, &wanted.0[row as usize])?;
-        has_basic(table, row, wanted.1[row as usize])?;
+        has_row(table, row, &wanted.0[row as usize], wanted.1[row as usize])?;
     }
-    Ok(())
+    holds(table.rows() == 3, "three rows")
 }
 
 /// What a pivot ends with; none where there is no such cell above 0.
@@ -74,12 +75,18 @@ const PIVOTS: [(u32, u32, TableRow); 2] = [
     ),
 ];
 
+fn pivots_at(table: &mut Dense, row: &(u32, u32, TableRow)) -> Result<(), Fail> {
+    if pivot(table, row.0, row.1) != Some(Ok(())) {
+        return fails_at(row);
+    }
+    is_table(table, &row.2)
+}
+
 fn pivots_each(table: &mut Dense) -> Result<(), Fail> {
     table.known();
     is_table(table, &START)?;
     for row in &PIVOTS {
-        is(&pivot(table, row.0, row.1), &Some(Ok(())), row)?;
-        is_table(table, &row.2)?;
+        pivots_at(table, row)?;
     }
     Ok(())
 }
@@ -107,7 +114,9 @@ const LONG_START: TableRow = (
 const OVERFLOW: PivotFault = PivotFault::Overflow { row: 1, column: 1 };
 
 fn overflows(table: &mut Dense) -> Result<(), Fail> {
-    is(&pivot(table, 0, 0), &Some(Err(OVERFLOW)), &"a pivot")?;
+    if pivot(table, 0, 0) != Some(Err(OVERFLOW)) {
+        return fails_at(&OVERFLOW);
+    }
     is_table(table, &LONG_START)
 }
 
