@@ -6,8 +6,6 @@ mod columns;
 mod search;
 mod split;
 mod square;
-#[cfg(test)]
-mod tests;
 mod weights;
 
 pub use split::slots;

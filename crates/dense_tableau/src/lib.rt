@@ -5,7 +5,5 @@ mod dense;
 mod pivoting;
 mod row;
 mod starting;
-#[cfg(test)]
-mod tests;
 
 pub use dense::Dense;

@@ -4,8 +4,6 @@
 mod flow;
 mod round;
 mod serving;
-#[cfg(test)]
-mod tests;
 mod walk;
 
 pub use flow::{Flow, Route};

@@ -6,8 +6,6 @@ mod combine;
 mod laws;
 mod programme;
 mod tableau;
-#[cfg(test)]
-mod tests;
 
 pub use certificate::{Certificate, Optimum};
 pub use combine::{combined, fitting_product};

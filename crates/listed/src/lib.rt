@@ -3,8 +3,6 @@
 
 mod list;
 mod memory;
-#[cfg(test)]
-mod tests;
 
 pub use list::Listed;
 pub use memory::NoMemory;

@@ -9,8 +9,6 @@ mod memory_files;
 mod memory_sink;
 mod sink;
 mod standard;
-#[cfg(test)]
-mod tests;
 
 pub use files::{Files, ReadEnd, read_whole};
 pub use memory_files::MemoryFiles;

@@ -3,8 +3,6 @@
 
 mod comparing;
 mod ratio;
-#[cfg(test)]
-mod tests;
 mod text;
 
 pub use comparing::cmp_parts;

@@ -4,8 +4,6 @@
 mod laws;
 mod lines;
 mod numbers;
-#[cfg(test)]
-mod tests;
 
 pub use laws::numbers_are_read_as_printed;
 pub use lines::{behind, first_line, parted, words_of};

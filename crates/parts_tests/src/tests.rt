@@ -1,0 +1,11 @@
+mod comparing;
+mod devices;
+mod flows;
+mod lines;
+mod lists;
+mod models;
+mod optima;
+mod periods;
+mod programmes;
+mod ratios;
+mod tables;
