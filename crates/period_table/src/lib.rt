@@ -12,8 +12,6 @@ mod placed;
 mod placing;
 mod sums;
 mod table;
-#[cfg(test)]
-mod tests;
 mod unrolling;
 mod walks;
 

@@ -16,4 +16,3 @@ pub mod Rooms
 pub mod Made
 pub mod Solutions
 pub mod Rated
-pub mod Idle

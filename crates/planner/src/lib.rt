@@ -9,8 +9,6 @@ mod planned;
 mod planning;
 mod pricing;
 mod scaling;
-#[cfg(test)]
-mod tests;
 mod weighing;
 
 pub use fault::PlanFault;

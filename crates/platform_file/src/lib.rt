@@ -7,8 +7,6 @@ mod platform;
 mod reading;
 mod scaling;
 mod sections;
-#[cfg(test)]
-mod tests;
 mod ticks;
 
 pub use fault::{Field, Kind, Place, PlatformFault, Section, TimedFault};

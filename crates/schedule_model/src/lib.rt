@@ -7,8 +7,6 @@ mod laws;
 mod operations;
 mod schedule;
 mod tally;
-#[cfg(test)]
-mod tests;
 
 pub use breach::{Breach, Rule};
 pub use check::check_schedule;

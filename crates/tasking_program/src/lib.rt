@@ -5,8 +5,6 @@ mod columns;
 mod laws;
 mod programme;
 mod rows;
-#[cfg(test)]
-mod tests;
 
 pub use columns::{Column, columns_of};
 pub use laws::{
