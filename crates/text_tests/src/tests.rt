@@ -1,6 +1,3 @@
 mod certificates;
-mod printed_plans;
-mod read_plans;
-mod tables;
-mod verdicts;
+mod plans;
 mod words;

@@ -1,45 +1,92 @@
 //! Words that are no command.
 
 use super::platforms::LONE_MASTER;
-use super::runs::{Wanted, gives};
-use std::alloc::Global;
+use super::runs::{Run, SOUND, end_so};
 use std::test::Fail;
 use steady_top::Status;
 
-const USAGES: [&str; 18] = [
-    "",
-    "help",
-    "plan",
-    "plan|-P",
-    "plan|P|P",
-    "plan|P|--pivots|x",
-    "plan|P|--series|tree",
-    "plan|P|--help",
-    "prices",
-    "prices|-P",
-    "audit",
-    "audit|P",
-    "audit|P|-C",
-    "audit|P|C|--periods|1000001",
-    "audit|P|C|--series|tasking",
-    "check|P",
-    "check|P|-P",
-    "check|P|P|P",
-];
+const USAGE: Run = Run {
+    words: &[],
+    files: [LONE_MASTER, ""],
+    changes: &[],
+    devices: SOUND,
+    status: Status::Usage,
+    text: "error: usage\n",
+};
 
-fn refuses(alloc: Global, line: &str) -> Result<(), Fail> {
-    let wanted = Wanted {
-        name: line,
-        status: Status::Usage,
-        text: "error: usage\n",
-    };
-    gives(alloc, line, LONE_MASTER.as_bytes(), b"", wanted)
-}
+static USAGES: [Run; 18] = [
+    USAGE,
+    Run {
+        words: &["help"],
+        ..USAGE
+    },
+    Run {
+        words: &["plan"],
+        ..USAGE
+    },
+    Run {
+        words: &["plan", "-P"],
+        ..USAGE
+    },
+    Run {
+        words: &["plan", "P", "P"],
+        ..USAGE
+    },
+    Run {
+        words: &["plan", "P", "--pivots", "x"],
+        ..USAGE
+    },
+    Run {
+        words: &["plan", "P", "--series", "tree"],
+        ..USAGE
+    },
+    Run {
+        words: &["plan", "P", "--help"],
+        ..USAGE
+    },
+    Run {
+        words: &["prices"],
+        ..USAGE
+    },
+    Run {
+        words: &["prices", "-P"],
+        ..USAGE
+    },
+    Run {
+        words: &["audit"],
+        ..USAGE
+    },
+    Run {
+        words: &["audit", "P"],
+        ..USAGE
+    },
+    Run {
+        words: &["audit", "P", "-C"],
+        ..USAGE
+    },
+    Run {
+        words: &["audit", "P", "C", "--periods", "1000001"],
+        ..USAGE
+    },
+    Run {
+        words: &["audit", "P", "C", "--series", "tasking"],
+        ..USAGE
+    },
+    Run {
+        words: &["check", "P"],
+        ..USAGE
+    },
+    Run {
+        words: &["check", "P", "-P"],
+        ..USAGE
+    },
+    Run {
+        words: &["check", "P", "P", "P"],
+        ..USAGE
+    },
+];
 
 #[test]
 fn refuses_words(rt: HostRuntime) -> Result<(), Fail> {
-    for line in &USAGES {
-        refuses(rt.alloc(), line)?;
-    }
-    Ok(())
+    end_so(rt.alloc(), &USAGES)
 }
