@@ -1,3 +1,5 @@
+use Rattle.std.proofs.Common.{rules, arith}
+use Rattle.std.proofs.lemmas.Grind.{common_steps}
 use Rattle.exact_simplex.proofs.Ends.{best_not_negative, ended_is_optimal}
 use Rattle.exact_simplex.proofs.solving.solve.Goals as goal
 
@@ -16,3 +18,6 @@ returns-clause-optimal g c p lp start =
     let t = g.T.Tableau.table c.run.new.table in
     let e = c.in_ok-run.ensures in
     rw c.in_ok-optimum.ensures (ended_is_optimal p t lp e.canonical (rw start at e.derived) e.gainless)
+
+pub returns-clause-exact : goal.returns-clause-exact
+returns-clause-exact g c = first_of (search rules, grind (arith, common_steps))

@@ -1,5 +1,6 @@
 use Rattle.std.proofs.Common.{rules, ◌≡◌, ◌≤◌, ℤ, pos, negsuc, ◌<ℤ◌, nat_abs, arith, sym, SFits}
 use Rattle.std.specs.Int.{w128}
+use Rattle.std.proofs.lemmas.Grind.{common_steps}
 use Rattle.std.proofs.lemmas.Int.{ints, to_z-of_z}
 use Rattle.exact_simplex.proofs.Ends.{row_there}
 use Rattle.exact_simplex.proofs.solving.value.Goals as goal
@@ -29,3 +30,6 @@ new-requires g c =
     let fits : SFits w128 c.cell-in-Some.result = search rules in
     let size : c.unsigned_abs-in-Some.result ≡ nat_abs (t.cell c.in-Some.row c.args.column) = rw (to_z-of_z _ _ fits, c.cell-in-Some.ensures) at c.unsigned_abs-in-Some.ensures.value in
     rw size (some_size _ own)
+
+pub returns-in-Some : goal.returns-in-Some
+returns-in-Some g c = first_of (search rules, grind (arith, common_steps))

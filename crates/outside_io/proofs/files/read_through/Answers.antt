@@ -33,3 +33,6 @@ loop-bytes-preserved g c = record {
   read = read_on _ _ _ _ c.in-Ok.count _ _ _ _ _ _ c.loop-bytes.invariant.same.current c.loop-bytes.invariant.taken c.loop-bytes.invariant.read c.in-Ok.ensures.bytes
       refl c.in_ok-extend_from_slice.ensures.items c.in_ok-extend_from_slice.ensures.len;
 }
+
+pub returns : goal.returns
+returns g c = search rules

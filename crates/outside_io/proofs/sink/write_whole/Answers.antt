@@ -1,3 +1,4 @@
+use Rattle.std.proofs.lemmas.Grind.{common_steps}
 use Rattle.std.proofs.Common.{rules, ◌≡◌, ℕ, ◌+◌, List, ◌++◌, take, drop, Option, Some, None, option_map, arith, refl, append_assoc}
 use Rattle.std.proofs.Math.Seq.{take-add}
 use Rattle.std.proofs.lemmas.List.{take_all, length-drop}
@@ -15,3 +16,6 @@ loop-done-preserved g c = record {
   appends = both_appended _ _ _ c.args.bytes.now _ _ _ c.loop-done.invariant.appends c.in_ok-count.ensures.appends (take_all _ _ (omega (arith, length-drop c.loop-done.done c.args.bytes.now)));
   faults = search rules;
 }
+
+pub returns : goal.returns
+returns g c = first_of (search rules, grind (arith, common_steps))

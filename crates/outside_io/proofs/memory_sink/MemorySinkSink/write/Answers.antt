@@ -1,4 +1,5 @@
-use Rattle.std.proofs.Common.{rules, refl, inl, inr}
+use Rattle.std.proofs.lemmas.Grind.{common_steps}
+use Rattle.std.proofs.Common.{rules, arith, refl, inl, inr}
 use Rattle.outside_io.proofs.memory_sink.MemorySinkSink.write.Goals as goal
 use Rattle.outside_io.proofs.memory_sink.MemorySinkSink.write.Goals.{then-contains-via-then-contains, then-contains-via-else-contains+then-not-is_empty, then-room-eq0, else-room-eq0}
 
@@ -10,3 +11,9 @@ returns-then-contains-clause-exact c = (
   ],
   λ _. refl,
 )
+
+pub unreachable-requires : goal.unreachable-requires
+unreachable-requires c = first_of (search rules, grind (arith, common_steps))
+
+pub returns-clause-count : goal.returns-clause-count
+returns-clause-count c = first_of (search rules, grind (arith, common_steps))
