@@ -9,3 +9,6 @@ returns-then-is_some c =
     let fault : is_some (column_fault c.args.lp.now c.args.certificate.now c.loop-column.column) ≡ true = search rules in
     let within : c.loop-column.column < c.args.lp.now.columns = search rules in
     c.column_fault-fault.ensures ∙ sym (fault_found c.args.lp.now c.args.certificate.now c.args.lp.now.columns c.loop-column.column within c.loop-column.invariant fault)
+
+pub returns : goal.returns
+returns c = search rules

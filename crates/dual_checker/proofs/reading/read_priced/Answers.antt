@@ -11,3 +11,6 @@ returns-else-is_empty-clause-value c =
     let end : after_text (rows + 5) (codes "end") c.in_ok-rest.rest.now ≡ Ok c.in_ok-rest-2.rest.now = search rules in
     let prices : prices_of rows c.args.bytes.now ≡ Ok (c.read_prices.new.prices, c.in_ok-rest.rest.now) = search rules in
     rw number (prices_read rows c.args.bytes.now _ _ c.args.scale c.args.best c.read_prices.new.prices prices end ∙ left_over (rows + 5) _ _ some)
+
+pub returns-then-is_empty-clause-value : goal.returns-then-is_empty-clause-value
+returns-then-is_empty-clause-value c = search rules

@@ -9,3 +9,6 @@ is_rate-requires-clause-period c =
     let table = c.args.table.now in
     let period : table.period ≡ sum_by (λ slot. slot.duration) table.slots = search rules in
     subst (λ n. 1 ≤ n) (sym period) (slots_last (lanes_of table.routes) table.slots (some_slots table.slots c.requires.some) c.requires.slots)
+
+pub returns-then-not-has_tasks : goal.returns-then-not-has_tasks
+returns-then-not-has_tasks c = search rules

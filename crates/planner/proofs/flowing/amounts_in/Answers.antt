@@ -1,6 +1,7 @@
-use Rattle.std.proofs.Common.{◌≡◌, ℕ, ◌*◌, refl, sym, ◌∙◌, arith}
+use Rattle.std.proofs.Common.{rules, ◌≡◌, ℕ, ◌*◌, refl, sym, ◌∙◌, arith}
 use Rattle.std.proofs.Math.Seq.{drop-length}
 use Rattle.std.proofs.lemmas.List.{get_or-replicate}
+use Rattle.std.proofs.lemmas.Grind.{common_steps}
 use Rattle.planner.proofs.flowing.amounts_in.Goals as goal
 
 nothing : (n : ℕ) → 0 * n ≡ 0
@@ -15,3 +16,6 @@ loop-k-init c =
       rates = λ node l. get_or-replicate 32 node 0 0 l ∙ sym (rw none (nothing _));
       flows = λ link l. get_or-replicate 128 link 0 0 l ∙ sym (rw none (nothing _));
     }
+
+pub loop-k-preserved : goal.loop-k-preserved
+loop-k-preserved c = first_of (search rules, grind (arith, common_steps))
