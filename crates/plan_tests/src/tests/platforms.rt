@@ -1,6 +1,7 @@
 //! Platform files: what is read of one, what is refused and where, and when a platform has ticks.
 
-use crate::tests::fixtures::{holds, in_ticks, read};
+use crate::tests::fixtures::{holds, read};
+use crate::tests::lent::{Told, tells_of};
 use platform_file::{
     Field, Kind, Place, Platform, PlatformFault, Section, Timed, TimedFault, read_platform, timed,
 };
@@ -27,16 +28,6 @@ fn has_links_of_pair(platform: &Platform) -> bool {
     links.len() == 2 && links[1].from() == 1 && links[1].to() == 0
 }
 
-fn tells_pair(platform: &Platform) -> Result<(), Fail> {
-    holds("the nodes of the pair", has_nodes_of_pair(platform))?;
-    holds("the links of the pair", has_links_of_pair(platform))
-}
-
-#[test]
-fn reads_a_platform(rt: HostRuntime) -> Result<(), Fail> {
-    tells_pair(&read(rt.alloc(), PAIR)?)
-}
-
 /// The denominators are 2, 3 and 1.
 fn has_ticks_of_pair(pair: &Timed) -> bool {
     pair.unit() == 6
@@ -48,26 +39,28 @@ fn has_ticks_of_pair(pair: &Timed) -> bool {
         && pair.cost(1) == 30
 }
 
-fn tells_pair_in_ticks(pair: &Timed) -> Result<(), Fail> {
+pub(crate) fn tells_pair(pair: &Timed) -> Result<(), Fail> {
+    holds("the nodes of the pair", has_nodes_of_pair(pair.platform()))?;
+    holds("the links of the pair", has_links_of_pair(pair.platform()))?;
     holds("the ticks of the pair", has_ticks_of_pair(pair))
 }
 
 #[test]
-fn brings_a_platform_into_ticks(rt: HostRuntime) -> Result<(), Fail> {
-    tells_pair_in_ticks(&in_ticks(rt.alloc(), PAIR)?)
+fn reads_a_platform_and_brings_it_into_ticks(rt: HostRuntime) -> Result<(), Fail> {
+    tells_of(rt.alloc(), PAIR, Told::Pair)
 }
 
 /// Two nodes that don't compute, written as an array of tables.
 const ARRAYS: &str = "version = 1\nmaster = 'a.b'\n[[node]]\nname = 'a.b'\n[[node]]\nname = '-'\n";
 
-fn tells_arrays(arrays: &Timed) -> Result<(), Fail> {
+pub(crate) fn tells_arrays(arrays: &Timed) -> Result<(), Fail> {
     holds("the unit of no ratio", arrays.unit() == 1)?;
     holds("two nodes", arrays.platform().nodes().len() == 2)
 }
 
 #[test]
 fn reads_arrays_of_tables_and_no_ratio(rt: HostRuntime) -> Result<(), Fail> {
-    tells_arrays(&in_ticks(rt.alloc(), ARRAYS)?)
+    tells_of(rt.alloc(), ARRAYS, Told::Arrays)
 }
 
 /// Why some bytes are no platform.

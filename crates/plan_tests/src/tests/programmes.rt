@@ -1,6 +1,7 @@
 //! The programme of a platform: its columns, its gains and its rows.
 
-use crate::tests::fixtures::{holds, in_ticks};
+use crate::tests::fixtures::holds;
+use crate::tests::lent::{Told, tells_of};
 use linear_program::{Lp, Row};
 use platform_file::Timed;
 use std::alloc::Global;
@@ -53,14 +54,14 @@ fn lists_columns(alloc: Global, timed: &Timed) -> Result<bool, Fail> {
     Ok(columns_of(alloc, timed)?.as_slice() == COLUMNS.as_slice())
 }
 
-fn tells_halves(alloc: Global, timed: &Timed) -> Result<(), Fail> {
+pub(crate) fn tells_halves(alloc: Global, timed: &Timed) -> Result<(), Fail> {
     holds("the columns of halves", lists_columns(alloc, timed)?)?;
     tells_programme(&tasking_lp(alloc, timed)?)
 }
 
 #[test]
 fn states_rows_of_ports_and_supplies(rt: HostRuntime) -> Result<(), Fail> {
-    tells_halves(rt.alloc(), &in_ticks(rt.alloc(), HALVES)?)
+    tells_of(rt.alloc(), HALVES, Told::Halves)
 }
 
 #[test]
