@@ -43,7 +43,7 @@ fn reads_short(alloc: Global, files: &mut MemoryFiles, most: u32) -> Result<bool
 }
 
 /// A name, the most bytes that are wanted, and how many are read or why they aren't.
-const READS: [(&str, u32, Result<usize, ReadEnd>); 5] = [
+static READS: [(&str, u32, Result<usize, ReadEnd>); 5] = [
     ("long", 70000, Ok(70000)),
     ("short", 3, Ok(3)),
     ("long", 69999, Err(ReadEnd::Longer)),
@@ -97,7 +97,7 @@ type WriteRow = (
 
 const TEXT: &str = "steady state";
 
-const WRITES: [WriteRow; 4] = [
+static WRITES: [WriteRow; 4] = [
     (100, &[9], 12, Ok(()), TEXT),
     (5, &[9], 12, Ok(()), TEXT),
     (5, &[1], 12, Err(Failed), "stead"),
