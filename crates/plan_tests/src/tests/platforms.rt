@@ -243,11 +243,6 @@ static NODES_AND_TARGETS: [(&str, PlatformFault); 14] = [
     ),
 ];
 
-#[test]
-fn names_each_fault_of_nodes_and_targets(rt: HostRuntime) -> Result<(), Fail> {
-    tells_faults(rt.alloc(), MASTER, &NODES_AND_TARGETS, "")
-}
-
 const LINK_EXTRA: Place = Place {
     section: Section::Link(1),
     field: Field::Extra,
@@ -298,11 +293,14 @@ static LINKS: [(&str, PlatformFault); 11] = [
     ),
 ];
 
+/// The head of a text, into its second link.
+const SECOND_LINK: &str =
+    "version = 1\nmaster = 'm'\nnode = [{name = 'm'}, {name = 'n'}]\nlink = [{from = 'm', to = 'n', cost = 1}, {";
+
 #[test]
-fn names_each_fault_of_links(rt: HostRuntime) -> Result<(), Fail> {
-    let head =
-        "version = 1\nmaster = 'm'\nnode = [{name = 'm'}, {name = 'n'}]\nlink = [{from = 'm', to = 'n', cost = 1}, {";
-    tells_faults(rt.alloc(), head, &LINKS, "}]")
+fn names_each_fault_of_nodes_targets_and_links(rt: HostRuntime) -> Result<(), Fail> {
+    tells_faults(rt.alloc(), MASTER, &NODES_AND_TARGETS, "")?;
+    tells_faults(rt.alloc(), SECOND_LINK, &LINKS, "}]")
 }
 
 /// The fault of a text with a byte more than it may have.

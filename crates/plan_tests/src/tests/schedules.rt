@@ -239,10 +239,15 @@ fn checks_ports_and_kinds(rt: HostRuntime) -> Result<(), Fail> {
     tells_of(rt.alloc(), DIAMOND, Told::Diamond)
 }
 
+/// Series and their words.
+static WORDS: [(Series, &str); 2] = [(Series::Tasking, "tasking"), (Series::Scatter, "scatter")];
+
 #[test]
 fn names_series() -> Result<(), Fail> {
-    holds("tasking", Series::Tasking.word() == "tasking")?;
-    holds("scatter", Series::Scatter.word() == "scatter")
+    for (series, word) in &WORDS {
+        holds(word, series.word() == *word)?;
+    }
+    Ok(())
 }
 
 #[test]
