@@ -60,16 +60,24 @@ fn multiple_of(a: u128, b: u128, max: u128) -> Option<Option<u128>> {
     Some(lcm_within(a, b, max))
 }
 
+/// Whether a fact about the parts of a fraction is so.
+fn has_parts(fact: &Fact) -> bool {
+    match fact {
+        Fact::Reduced((num, den), terms) => *den > 0 && parts(&Ratio::new(*num, *den)) == *terms,
+        Fact::Whole(number, terms) => parts(&Ratio::from(*number)) == *terms,
+        Fact::Product(a, b, den, max, terms) => *den > 0 && product(*a, *b, *den, *max) == *terms,
+        _ => false,
+    }
+}
+
 /// Whether a fact is so. None is of a fraction over 0, or of a multiple of 0.
 fn is_so(fact: &Fact) -> bool {
     match fact {
         Fact::Divisor(a, b, divisor) => gcd(*a, *b) == *divisor,
-        Fact::Reduced((num, den), terms) => *den > 0 && parts(&Ratio::new(*num, *den)) == *terms,
         Fact::Order(a, b, c, d, order) => order_of(*a, *b, *c, *d) == Some(*order),
         Fact::Multiple(a, b, max, multiple) => multiple_of(*a, *b, *max) == Some(*multiple),
-        Fact::Whole(number, terms) => parts(&Ratio::from(*number)) == *terms,
-        Fact::Product(a, b, den, max, terms) => *den > 0 && product(*a, *b, *den, *max) == *terms,
         Fact::Text(text, terms) => read(text) == *terms,
+        _ => has_parts(fact),
     }
 }
 
