@@ -2,6 +2,7 @@
 //! by which a failure tells it.
 
 mod fixtures;
+mod lent;
 mod op_rows;
 mod plans;
 mod platforms;

@@ -31,57 +31,68 @@ fn two_files(alloc: Global, failing: &[u64]) -> Result<MemoryFiles, Fail> {
     Ok(MemoryFiles::new(entries(alloc)?, failing.to_vec(alloc)?))
 }
 
-/// How many bytes a file has, where it has at most so many.
-fn length(alloc: Global, files: &mut MemoryFiles, name: &str, most: u32) -> Result<usize, ReadEnd> {
-    Ok(read_whole(alloc, files, name, u64::from(most))?.len())
-}
+/// A name, the most bytes that are wanted, how many are read and the first of them, and that they are, or why not.
+type ReadRow = (
+    &'static str,
+    u32,
+    usize,
+    &'static [u8],
+    Result<bool, ReadEnd>,
+);
 
-/// Whether the short file is read whole.
-fn reads_short(alloc: Global, files: &mut MemoryFiles, most: u32) -> Result<bool, Fail> {
-    let bytes = read_whole(alloc, files, "short", u64::from(most))?;
-    Ok(bytes.as_slice() == b"abc".as_slice())
-}
-
-/// A name, the most bytes that are wanted, and how many are read or why they aren't.
-const READS: [(&str, u32, Result<usize, ReadEnd>); 5] = [
-    ("long", 70000, Ok(70000)),
-    ("short", 3, Ok(3)),
-    ("long", 69999, Err(ReadEnd::Longer)),
-    ("short", 2, Err(ReadEnd::Longer)),
-    ("none", 9, Err(ReadEnd::Failed)),
+const FAILING: [ReadRow; 2] = [
+    ("long", 70000, 0, b"", Err(ReadEnd::Failed)),
+    ("short", 3, 3, b"abc", Ok(true)),
 ];
 
-fn reads_each(alloc: Global, files: &mut MemoryFiles) -> Result<(), Fail> {
-    for row in &READS {
-        if length(alloc, files, row.0, row.1) != row.2 {
-            return fails_at(row);
+/// Calls that fail, and what is read of the two files one after another. A file of 70,000 bytes takes an open, a read of
+/// 65,536 bytes, a read of the rest and a read at the end.
+static READS: [(&[u64], &[ReadRow]); 5] = [
+    (
+        &[],
+        &[
+            ("long", 70000, 70000, b"", Ok(true)),
+            ("short", 3, 3, b"abc", Ok(true)),
+            ("long", 69999, 0, b"", Err(ReadEnd::Longer)),
+            ("short", 2, 0, b"", Err(ReadEnd::Longer)),
+            ("none", 9, 0, b"", Err(ReadEnd::Failed)),
+            ("short", 9, 3, b"abc", Ok(true)),
+        ],
+    ),
+    (&[0], &FAILING),
+    (&[1], &FAILING),
+    (&[2], &FAILING),
+    (&[3], &FAILING),
+];
+
+/// Whether a file is read whole, as a row has it.
+fn is_read(alloc: Global, files: &mut MemoryFiles, row: &ReadRow) -> Result<bool, ReadEnd> {
+    let bytes = read_whole(alloc, files, row.0, u64::from(row.1))?;
+    Ok(bytes.len() == row.2 && bytes.starts_with(row.3))
+}
+
+fn reads_each(
+    alloc: Global,
+    files: &mut MemoryFiles,
+    failing: &[u64],
+    rows: &[ReadRow],
+) -> Result<(), Fail> {
+    for row in rows {
+        if is_read(alloc, files, row) != row.4 {
+            return fails_at(&(failing, row));
         }
-    }
-    holds(reads_short(alloc, files, 9)?, "short")
-}
-
-#[test]
-fn reads_to_the_end(rt: HostRuntime) -> Result<(), Fail> {
-    reads_each(rt.alloc(), &mut two_files(rt.alloc(), &[])?)
-}
-
-fn fails_once(alloc: Global, files: &mut MemoryFiles, call: u64) -> Result<(), Fail> {
-    let long = length(alloc, files, "long", 70000);
-    if long != Err(ReadEnd::Failed) || !reads_short(alloc, files, 3)? {
-        return fails_at(&call);
     }
     Ok(())
 }
 
-fn fails_at_call(alloc: Global, call: u64) -> Result<(), Fail> {
-    fails_once(alloc, &mut two_files(alloc, &[call])?, call)
+fn reads_over(alloc: Global, failing: &[u64], rows: &[ReadRow]) -> Result<(), Fail> {
+    reads_each(alloc, &mut two_files(alloc, failing)?, failing, rows)
 }
 
 #[test]
-fn fails_the_listed_calls(rt: HostRuntime) -> Result<(), Fail> {
-    // an open, a read of 65,536 bytes, a read of the rest, a read at the end
-    for call in 0..4 {
-        fails_at_call(rt.alloc(), call)?;
+fn reads_to_the_end_or_fails(rt: HostRuntime) -> Result<(), Fail> {
+    for (failing, rows) in &READS {
+        reads_over(rt.alloc(), failing, rows)?;
     }
     Ok(())
 }
@@ -97,7 +108,7 @@ type WriteRow = (
 
 const TEXT: &str = "steady state";
 
-const WRITES: [WriteRow; 4] = [
+static WRITES: [WriteRow; 4] = [
     (100, &[9], 12, Ok(()), TEXT),
     (5, &[9], 12, Ok(()), TEXT),
     (5, &[1], 12, Err(Failed), "stead"),
@@ -135,30 +146,10 @@ fn writes_whole_or_a_front(rt: HostRuntime) -> Result<(), Fail> {
 /// The name of a file of the system.
 const OUTSIDE: &str = "outside_io.txt";
 
-/// Reads the file whole, at most so many bytes of it.
-fn read_outside(rt: &HostRuntime, most: u32) -> Result<Vec<u8>, ReadEnd> {
-    read_whole(rt.alloc(), &mut StdFiles::new(rt), OUTSIDE, u64::from(most))
-}
-
-fn is_outside(rt: &HostRuntime, most: u32) -> Result<bool, Fail> {
-    Ok(read_outside(rt, most)?.as_slice() == b"one two\n".as_slice())
-}
-
-fn reads_outside(rt: &HostRuntime) -> Result<(), Fail> {
-    fs::write(rt, OUTSIDE, "one two\n")?;
-    holds(is_outside(rt, 100)?, OUTSIDE)
-}
-
-fn refuses_outside(rt: &HostRuntime, most: u32, end: ReadEnd) -> Result<(), Fail> {
-    match read_outside(rt, most) {
-        Err(found) if found == end => Ok(()),
-        _ => fails_at(&(OUTSIDE, most)),
-    }
-}
-
-fn removes_outside(rt: &HostRuntime) -> Result<(), Fail> {
-    fs::remove_file(rt, OUTSIDE)?;
-    refuses_outside(rt, 100, ReadEnd::Failed)
+/// Whether the file is read whole, at most so many bytes of it.
+fn is_read_outside(rt: &HostRuntime, most: u32) -> Result<bool, ReadEnd> {
+    let bytes = read_whole(rt.alloc(), &mut StdFiles::new(rt), OUTSIDE, u64::from(most))?;
+    Ok(bytes.as_slice() == b"one two\n".as_slice())
 }
 
 fn writes_outside(rt: &HostRuntime) -> Result<(), Fail> {
@@ -167,9 +158,11 @@ fn writes_outside(rt: &HostRuntime) -> Result<(), Fail> {
 }
 
 fn reads_and_writes(rt: &HostRuntime) -> Result<(), Fail> {
-    reads_outside(rt)?;
-    refuses_outside(rt, 3, ReadEnd::Longer)?;
-    removes_outside(rt)?;
+    fs::write(rt, OUTSIDE, "one two\n")?;
+    holds(is_read_outside(rt, 100) == Ok(true), OUTSIDE)?;
+    holds(is_read_outside(rt, 3) == Err(ReadEnd::Longer), "longer")?;
+    fs::remove_file(rt, OUTSIDE)?;
+    holds(is_read_outside(rt, 100) == Err(ReadEnd::Failed), "removed")?;
     writes_outside(rt)
 }
 

@@ -8,9 +8,6 @@ use text_lines::{
     words_of,
 };
 
-/// A text, and what stands before and behind a byte in it.
-type PartRow = (&'static str, Option<(&'static str, &'static str)>);
-
 fn are(found: Option<(&[u8], &[u8])>, wanted: Option<(&str, &str)>) -> bool {
     match (found, wanted) {
         (Some((left, right)), Some((before, behind))) => {
@@ -29,42 +26,103 @@ fn is_rest(found: Option<&[u8]>, wanted: Option<&str>) -> bool {
     }
 }
 
-const LINES: [PartRow; 3] = [
-    ("a b\nc\n", Some(("a b", "c\n"))),
-    ("\n", Some(("", ""))),
-    ("a", None),
+/// What is read of a text, and in which way.
+enum Reading {
+    /// The first line and what follows it.
+    FirstLine(Option<(&'static str, &'static str)>),
+    /// What stands before and behind a colon.
+    Parted(Option<(&'static str, &'static str)>),
+    /// What stands behind `rows `.
+    Behind(Option<&'static str>),
+    /// The whole number that the text is printed of.
+    Integer(Option<i128>),
+    /// The number of at most 7 that the text is printed of.
+    Natural(Option<u128>),
+    /// The number of at most 1000 that the digits write.
+    Digits(Option<u128>),
+}
+
+fn is_read(text: &[u8], reading: &Reading) -> bool {
+    match reading {
+        Reading::FirstLine(parts) => are(first_line(text), *parts),
+        Reading::Parted(parts) => are(parted(b':', text), *parts),
+        Reading::Behind(rest) => is_rest(behind(b"rows ", text), *rest),
+        Reading::Integer(number) => {
+            integer_of(text, 170141183460469231731687303715884105727) == *number
+        }
+        Reading::Natural(number) => natural_of(text, 7) == *number,
+        Reading::Digits(number) => number_of(text, 1000) == *number,
+    }
+}
+
+/// Ways of reading, texts, and what is read of each.
+static READINGS: [(&str, &str, Reading); 30] = [
+    (
+        "the first line",
+        "a b\nc\n",
+        Reading::FirstLine(Some(("a b", "c\n"))),
+    ),
+    ("the first line", "\n", Reading::FirstLine(Some(("", "")))),
+    ("the first line", "a", Reading::FirstLine(None)),
+    (
+        "parted at a colon",
+        "1:2:3",
+        Reading::Parted(Some(("1", "2:3"))),
+    ),
+    ("parted at a colon", "1 2", Reading::Parted(None)),
+    ("behind a word", "rows 7", Reading::Behind(Some("7"))),
+    ("behind a word", "row", Reading::Behind(None)),
+    ("an integer", "0", Reading::Integer(Some(0))),
+    ("an integer", "10", Reading::Integer(Some(10))),
+    ("an integer", "-7", Reading::Integer(Some(-7))),
+    (
+        "an integer",
+        "170141183460469231731687303715884105727",
+        Reading::Integer(Some(i128::MAX)),
+    ),
+    (
+        "an integer",
+        "-170141183460469231731687303715884105727",
+        Reading::Integer(Some(-i128::MAX)),
+    ),
+    (
+        "an integer",
+        "170141183460469231731687303715884105728",
+        Reading::Integer(None),
+    ),
+    (
+        "an integer",
+        "999999999999999999999999999999999999999999",
+        Reading::Integer(None),
+    ),
+    ("an integer", "", Reading::Integer(None)),
+    ("an integer", "-", Reading::Integer(None)),
+    ("an integer", "-0", Reading::Integer(None)),
+    ("an integer", "00", Reading::Integer(None)),
+    ("an integer", "07", Reading::Integer(None)),
+    ("an integer", "+7", Reading::Integer(None)),
+    ("an integer", "7 ", Reading::Integer(None)),
+    ("a natural of at most 7", "7", Reading::Natural(Some(7))),
+    ("a natural of at most 7", "8", Reading::Natural(None)),
+    ("digits of at most 1000", "0", Reading::Digits(Some(0))),
+    ("digits of at most 1000", "007", Reading::Digits(Some(7))),
+    (
+        "digits of at most 1000",
+        "1000",
+        Reading::Digits(Some(1000)),
+    ),
+    ("digits of at most 1000", "1001", Reading::Digits(None)),
+    ("digits of at most 1000", "", Reading::Digits(None)),
+    ("digits of at most 1000", "+7", Reading::Digits(None)),
+    ("digits of at most 1000", "7x", Reading::Digits(None)),
 ];
 
-const PARTED: [PartRow; 2] = [("1:2:3", Some(("1", "2:3"))), ("1 2", None)];
-
-/// Texts, and what stands behind `rows ` in each.
-const BEHIND: [(&str, Option<&str>); 2] = [("rows 7", Some("7")), ("row", None)];
-
 #[test]
-fn reads_lines() -> Result<(), Fail> {
-    for row in &LINES {
-        if !are(first_line(row.0.as_bytes()), row.1) {
-            return fails_at(row);
-        }
-    }
-    Ok(())
-}
-
-#[test]
-fn parts_texts() -> Result<(), Fail> {
-    for row in &PARTED {
-        if !are(parted(b':', row.0.as_bytes()), row.1) {
-            return fails_at(row);
-        }
-    }
-    Ok(())
-}
-
-#[test]
-fn looks_behind_words() -> Result<(), Fail> {
-    for row in &BEHIND {
-        if !is_rest(behind(b"rows ", row.0.as_bytes()), row.1) {
-            return fails_at(row);
+fn reads_lines_and_numbers() -> Result<(), Fail> {
+    numbers_are_read_as_printed();
+    for (name, text, reading) in &READINGS {
+        if !is_read(text.as_bytes(), reading) {
+            return fails_at(&(name, text));
         }
     }
     Ok(())
@@ -73,7 +131,7 @@ fn looks_behind_words() -> Result<(), Fail> {
 /// A line, how many words it has, and the last one.
 type WordsRow = (&'static str, usize, &'static str);
 
-const WORDS: [WordsRow; 5] = [
+static WORDS: [WordsRow; 5] = [
     ("slot 1 0:1", 3, "0:1"),
     ("", 1, ""),
     (" a", 2, "a"),
@@ -99,70 +157,6 @@ fn reads_row(alloc: Global, row: &WordsRow) -> Result<(), Fail> {
 fn reads_words(rt: HostRuntime) -> Result<(), Fail> {
     for row in &WORDS {
         reads_row(rt.alloc(), row)?;
-    }
-    Ok(())
-}
-
-/// Texts, and the whole number that each is printed of.
-const INTEGERS: [(&str, Option<i128>); 14] = [
-    ("0", Some(0)),
-    ("10", Some(10)),
-    ("-7", Some(-7)),
-    ("170141183460469231731687303715884105727", Some(i128::MAX)),
-    ("-170141183460469231731687303715884105727", Some(-i128::MAX)),
-    ("170141183460469231731687303715884105728", None),
-    ("999999999999999999999999999999999999999999", None),
-    ("", None),
-    ("-", None),
-    ("-0", None),
-    ("00", None),
-    ("07", None),
-    ("+7", None),
-    ("7 ", None),
-];
-
-#[test]
-fn reads_integers() -> Result<(), Fail> {
-    for row in &INTEGERS {
-        let found = integer_of(row.0.as_bytes(), 170141183460469231731687303715884105727);
-        if found != row.1 {
-            return fails_at(row);
-        }
-    }
-    Ok(())
-}
-
-/// Texts, and the number of at most 7 that each is printed of.
-const NATURALS: [(&str, Option<u128>); 2] = [("7", Some(7)), ("8", None)];
-
-#[test]
-fn reads_naturals() -> Result<(), Fail> {
-    numbers_are_read_as_printed();
-    for row in &NATURALS {
-        if natural_of(row.0.as_bytes(), 7) != row.1 {
-            return fails_at(row);
-        }
-    }
-    Ok(())
-}
-
-/// Texts, and the number of at most 1000 that the digits of each write.
-const NUMBERS: [(&str, Option<u128>); 7] = [
-    ("0", Some(0)),
-    ("007", Some(7)),
-    ("1000", Some(1000)),
-    ("1001", None),
-    ("", None),
-    ("+7", None),
-    ("7x", None),
-];
-
-#[test]
-fn reads_digits() -> Result<(), Fail> {
-    for row in &NUMBERS {
-        if number_of(row.0.as_bytes(), 1000) != row.1 {
-            return fails_at(row);
-        }
     }
     Ok(())
 }

@@ -6,7 +6,7 @@ use std::alloc::AllocError;
 use std::test::Fail;
 
 /// What a list has after each of these is appended.
-const ITEMS: [(u32, &[u32]); 2] = [(3, &[3]), (1, &[3, 1])];
+static ITEMS: [(u32, &[u32]); 2] = [(3, &[3]), (1, &[3, 1])];
 
 fn has(list: &Listed<u32>, items: &[u32]) -> bool {
     list.as_slice() == items

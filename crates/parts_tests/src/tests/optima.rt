@@ -24,10 +24,10 @@ fn solved(alloc: Global, lp: &Lp, limit: u64) -> Result<Optimum, SolveFault>
 fn refuses(alloc: Global, lp: &Lp, limit: u64, fault: SolveFault) -> Result<(), Fail>
     requires { IsBounded lp.now }
 {
-    match solved(alloc, lp, limit) {
-        Err(found) if found == fault => Ok(()),
-        _ => fails_at(&fault),
+    if solved(alloc, lp, limit).err() != Some(fault) {
+        return fails_at(&fault);
     }
+    Ok(())
 }
 
 fn solves(alloc: Global, lp: &Lp) -> Result<(), Fail>

@@ -71,7 +71,7 @@ const MOST: i128 = i128::MAX;
 const HALF: i128 = 1 << 126;
 
 /// p, a, q and b, and p a - q b where it and both products fit.
-const COMBINATIONS: [(i128, i128, i128, i128, Option<i128>); 7] = [
+static COMBINATIONS: [(i128, i128, i128, i128, Option<i128>); 7] = [
     (2, 3, 5, 1, Some(1)),
     (1, MOST, 0, 7, Some(MOST)),
     (1, -MOST, 0, 7, Some(-MOST)),

@@ -6,6 +6,7 @@ ghost use Rattle.tasking_program.specs.Programme.{tasking_programme};
 ghost use Rattle.planner.specs.Points.{IsPoint};
 
 use crate::tests::fixtures::{holds, in_ticks};
+use crate::tests::lent::{Told, tells_of};
 use crate::tests::table_rows::{IDLE, TableRow, is_of_row};
 use linear_program::{Certificate, Lp};
 use planner::{PeriodStep, Plan, PlanFault, plan, prices, table_of};
@@ -93,7 +94,7 @@ fn tells_planned(alloc: Global, timed: &Timed) -> Result<(), Fail> {
     tells_plan(alloc, timed, &plan(alloc, timed, Series::Tasking, 100)?)
 }
 
-fn tells_workers(alloc: Global, timed: &Timed) -> Result<(), Fail> {
+pub(crate) fn tells_workers(alloc: Global, timed: &Timed) -> Result<(), Fail> {
     tells_prices(alloc, timed)?;
     tells_spent(alloc, timed)?;
     tells_planned(alloc, timed)
@@ -101,7 +102,7 @@ fn tells_workers(alloc: Global, timed: &Timed) -> Result<(), Fail> {
 
 #[test]
 fn prices_and_plans_two_workers(rt: HostRuntime) -> Result<(), Fail> {
-    tells_workers(rt.alloc(), &in_ticks(rt.alloc(), TWO_WORKERS)?)
+    tells_of(rt.alloc(), TWO_WORKERS, Told::Workers)
 }
 
 /// Chains, and where their period passes its bound.
@@ -164,11 +165,11 @@ fn tells_no_task(alloc: Global, timed: &Timed, lp: &Lp) -> Result<(), Fail>
     tells_table_of_nothing(alloc, timed)
 }
 
-fn tells_lone_master(alloc: Global, timed: &Timed) -> Result<(), Fail> {
+pub(crate) fn tells_lone_master(alloc: Global, timed: &Timed) -> Result<(), Fail> {
     tells_no_task(alloc, timed, &tasking_lp(alloc, timed)?)
 }
 
 #[test]
 fn makes_the_table_of_no_task(rt: HostRuntime) -> Result<(), Fail> {
-    tells_lone_master(rt.alloc(), &in_ticks(rt.alloc(), LONE_MASTER)?)
+    tells_of(rt.alloc(), LONE_MASTER, Told::LoneMaster)
 }

@@ -1,6 +1,7 @@
 //! Platform files: what is read of one, what is refused and where, and when a platform has ticks.
 
-use crate::tests::fixtures::{holds, in_ticks, read};
+use crate::tests::fixtures::{holds, read};
+use crate::tests::lent::{Told, tells_of};
 use platform_file::{
     Field, Kind, Place, Platform, PlatformFault, Section, Timed, TimedFault, read_platform, timed,
 };
@@ -27,16 +28,6 @@ fn has_links_of_pair(platform: &Platform) -> bool {
     links.len() == 2 && links[1].from() == 1 && links[1].to() == 0
 }
 
-fn tells_pair(platform: &Platform) -> Result<(), Fail> {
-    holds("the nodes of the pair", has_nodes_of_pair(platform))?;
-    holds("the links of the pair", has_links_of_pair(platform))
-}
-
-#[test]
-fn reads_a_platform(rt: HostRuntime) -> Result<(), Fail> {
-    tells_pair(&read(rt.alloc(), PAIR)?)
-}
-
 /// The denominators are 2, 3 and 1.
 fn has_ticks_of_pair(pair: &Timed) -> bool {
     pair.unit() == 6
@@ -48,26 +39,28 @@ fn has_ticks_of_pair(pair: &Timed) -> bool {
         && pair.cost(1) == 30
 }
 
-fn tells_pair_in_ticks(pair: &Timed) -> Result<(), Fail> {
+pub(crate) fn tells_pair(pair: &Timed) -> Result<(), Fail> {
+    holds("the nodes of the pair", has_nodes_of_pair(pair.platform()))?;
+    holds("the links of the pair", has_links_of_pair(pair.platform()))?;
     holds("the ticks of the pair", has_ticks_of_pair(pair))
 }
 
 #[test]
-fn brings_a_platform_into_ticks(rt: HostRuntime) -> Result<(), Fail> {
-    tells_pair_in_ticks(&in_ticks(rt.alloc(), PAIR)?)
+fn reads_a_platform_and_brings_it_into_ticks(rt: HostRuntime) -> Result<(), Fail> {
+    tells_of(rt.alloc(), PAIR, Told::Pair)
 }
 
 /// Two nodes that don't compute, written as an array of tables.
 const ARRAYS: &str = "version = 1\nmaster = 'a.b'\n[[node]]\nname = 'a.b'\n[[node]]\nname = '-'\n";
 
-fn tells_arrays(arrays: &Timed) -> Result<(), Fail> {
+pub(crate) fn tells_arrays(arrays: &Timed) -> Result<(), Fail> {
     holds("the unit of no ratio", arrays.unit() == 1)?;
     holds("two nodes", arrays.platform().nodes().len() == 2)
 }
 
 #[test]
 fn reads_arrays_of_tables_and_no_ratio(rt: HostRuntime) -> Result<(), Fail> {
-    tells_arrays(&in_ticks(rt.alloc(), ARRAYS)?)
+    tells_of(rt.alloc(), ARRAYS, Told::Arrays)
 }
 
 /// Why some bytes are no platform.
@@ -118,16 +111,15 @@ fn tells_fields(alloc: Global) -> Result<(), Fail> {
     for (text, field) in &TOP_FIELDS {
         holds(text, has_bad_field(alloc, text, *field))?;
     }
-    Ok(())
+    holds(
+        NO_NODES,
+        fault(alloc, NO_NODES.as_bytes()) == Some(NO_MASTER),
+    )
 }
 
 #[test]
 fn names_each_fault_of_the_top(rt: HostRuntime) -> Result<(), Fail> {
-    tells_fields(rt.alloc())?;
-    holds(
-        NO_NODES,
-        fault(rt.alloc(), NO_NODES.as_bytes()) == Some(NO_MASTER),
-    )
+    tells_fields(rt.alloc())
 }
 
 /// Why the text between a head and a tail is no platform.
@@ -250,11 +242,6 @@ static NODES_AND_TARGETS: [(&str, PlatformFault); 14] = [
     ),
 ];
 
-#[test]
-fn names_each_fault_of_nodes_and_targets(rt: HostRuntime) -> Result<(), Fail> {
-    tells_faults(rt.alloc(), MASTER, &NODES_AND_TARGETS, "")
-}
-
 const LINK_EXTRA: Place = Place {
     section: Section::Link(1),
     field: Field::Extra,
@@ -305,11 +292,18 @@ static LINKS: [(&str, PlatformFault); 11] = [
     ),
 ];
 
+/// The head of a text, into its second link.
+const SECOND_LINK: &str =
+    "version = 1\nmaster = 'm'\nnode = [{name = 'm'}, {name = 'n'}]\nlink = [{from = 'm', to = 'n', cost = 1}, {";
+
+fn tells_sections(alloc: Global) -> Result<(), Fail> {
+    tells_faults(alloc, MASTER, &NODES_AND_TARGETS, "")?;
+    tells_faults(alloc, SECOND_LINK, &LINKS, "}]")
+}
+
 #[test]
-fn names_each_fault_of_links(rt: HostRuntime) -> Result<(), Fail> {
-    let head =
-        "version = 1\nmaster = 'm'\nnode = [{name = 'm'}, {name = 'n'}]\nlink = [{from = 'm', to = 'n', cost = 1}, {";
-    tells_faults(rt.alloc(), head, &LINKS, "}]")
+fn names_each_fault_of_nodes_targets_and_links(rt: HostRuntime) -> Result<(), Fail> {
+    tells_sections(rt.alloc())
 }
 
 /// The fault of a text with a byte more than it may have.
@@ -332,15 +326,16 @@ static NO_TOML: [(&str, &[u8]); 2] = [
     ("a byte that is no UTF-8", b"\xff"),
 ];
 
-#[test]
-fn refuses_what_is_no_toml(rt: HostRuntime) -> Result<(), Fail> {
+fn tells_no_toml(alloc: Global) -> Result<(), Fail> {
     for (name, bytes) in &NO_TOML {
-        holds(
-            name,
-            fault(rt.alloc(), bytes) == Some(PlatformFault::NotToml),
-        )?;
+        holds(name, fault(alloc, bytes) == Some(PlatformFault::NotToml))?;
     }
     Ok(())
+}
+
+#[test]
+fn refuses_what_is_no_toml(rt: HostRuntime) -> Result<(), Fail> {
+    tells_no_toml(rt.alloc())
 }
 
 /// Numbers of nodes, links and targets, and the fault of a text with so many.
@@ -381,8 +376,8 @@ fn write_array(text: &mut String, key: &str, item: &str, count: u32) -> Result<(
 }
 
 fn write_arrays(text: &mut String, counts: &[u32; 3]) -> Result<(), Fail> {
-    for ((key, item), count) in KEYS.iter().zip(counts) {
-        write_array(text, key, item, *count)?;
+    for (row, count) in KEYS.iter().zip(counts) {
+        write_array(text, row.0, row.1, *count)?;
     }
     Ok(())
 }

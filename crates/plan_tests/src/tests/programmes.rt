@@ -1,6 +1,7 @@
 //! The programme of a platform: its columns, its gains and its rows.
 
-use crate::tests::fixtures::{holds, in_ticks};
+use crate::tests::fixtures::holds;
+use crate::tests::lent::{Told, tells_of};
 use linear_program::{Lp, Row};
 use platform_file::Timed;
 use std::alloc::Global;
@@ -15,8 +16,11 @@ const HALVES: &str =
     "version = 1\nmaster = 'm'\nnode = [{name = 'm', time = 2}, {name = 'w', time = '3/2'}]\n\
     link = [{from = 'm', to = 'w', cost = '1/2'}, {from = 'w', to = 'm', cost = 1}]\n";
 
-/// The rows of the programme: what each limits, its cells and its right-hand side.
-static ROWS: [(&str, &[(u32, i128)], i128); 7] = [
+/// What a row limits, its cells and its right-hand side.
+type LimitRow = (&'static str, &'static [(u32, i128)], i128);
+
+/// The rows of the programme.
+static ROWS: [LimitRow; 7] = [
     ("the tasks of m", &[(0, 4)], 1),
     ("the tasks of w", &[(1, 3)], 1),
     ("the sends of m", &[(2, 1)], 1),
@@ -26,13 +30,13 @@ static ROWS: [(&str, &[(u32, i128)], i128); 7] = [
     ("the supply of w", &[(1, 1), (2, -1)], 0),
 ];
 
-fn is_row(row: &Row, cells: &[(u32, i128)], side: i128) -> bool {
-    row.cells() == cells && row.rhs() == side
+fn is_row(row: &Row, wanted: &LimitRow) -> bool {
+    row.cells() == wanted.1 && row.rhs() == wanted.2
 }
 
 fn tells_rows(rows: &[Row]) -> Result<(), Fail> {
-    for (row, (name, cells, side)) in rows.iter().zip(&ROWS) {
-        holds(name, is_row(row, cells, *side))?;
+    for (row, wanted) in rows.iter().zip(&ROWS) {
+        holds(wanted.0, is_row(row, wanted))?;
     }
     Ok(())
 }
@@ -53,14 +57,14 @@ fn lists_columns(alloc: Global, timed: &Timed) -> Result<bool, Fail> {
     Ok(columns_of(alloc, timed)?.as_slice() == COLUMNS.as_slice())
 }
 
-fn tells_halves(alloc: Global, timed: &Timed) -> Result<(), Fail> {
+pub(crate) fn tells_halves(alloc: Global, timed: &Timed) -> Result<(), Fail> {
     holds("the columns of halves", lists_columns(alloc, timed)?)?;
     tells_programme(&tasking_lp(alloc, timed)?)
 }
 
 #[test]
 fn states_rows_of_ports_and_supplies(rt: HostRuntime) -> Result<(), Fail> {
-    tells_halves(rt.alloc(), &in_ticks(rt.alloc(), HALVES)?)
+    tells_of(rt.alloc(), HALVES, Told::Halves)
 }
 
 #[test]

@@ -1,6 +1,7 @@
 //! Schedules: what each completes, or the first operation that breaks a rule.
 
-use crate::tests::fixtures::{holds, in_ticks};
+use crate::tests::fixtures::holds;
+use crate::tests::lent::{Told, tells_of};
 use crate::tests::op_rows::OpRow::{Computed, Sent};
 use crate::tests::op_rows::{OpRow, ops_of};
 use platform_file::Timed;
@@ -135,13 +136,13 @@ static OF_ONE_WORKER: [(&str, ScheduleRow, Verdict); 15] = [
     ),
 ];
 
-fn tells_of_one_worker(alloc: Global, timed: &Timed) -> Result<(), Fail> {
+pub(crate) fn tells_of_one_worker(alloc: Global, timed: &Timed) -> Result<(), Fail> {
     tells_verdicts(alloc, timed, Series::Tasking, &OF_ONE_WORKER)
 }
 
 #[test]
 fn checks_schedules_of_one_worker(rt: HostRuntime) -> Result<(), Fail> {
-    tells_of_one_worker(rt.alloc(), &in_ticks(rt.alloc(), ONE_WORKER)?)
+    tells_of(rt.alloc(), ONE_WORKER, Told::OneWorker)
 }
 
 /// Schedules of tasks over the diamond.
@@ -228,20 +229,25 @@ static MESSAGES: [(&str, ScheduleRow, Verdict); 6] = [
     ("a task", (2, 20, &[Computed(2, 0)]), Err((0, Rule::Range))),
 ];
 
-fn tells_of_the_diamond(alloc: Global, timed: &Timed) -> Result<(), Fail> {
+pub(crate) fn tells_of_the_diamond(alloc: Global, timed: &Timed) -> Result<(), Fail> {
     tells_verdicts(alloc, timed, Series::Tasking, &TASKS)?;
     tells_verdicts(alloc, timed, Series::Scatter, &MESSAGES)
 }
 
 #[test]
 fn checks_ports_and_kinds(rt: HostRuntime) -> Result<(), Fail> {
-    tells_of_the_diamond(rt.alloc(), &in_ticks(rt.alloc(), DIAMOND)?)
+    tells_of(rt.alloc(), DIAMOND, Told::Diamond)
 }
+
+/// Series and their words.
+static WORDS: [(Series, &str); 2] = [(Series::Tasking, "tasking"), (Series::Scatter, "scatter")];
 
 #[test]
 fn names_series() -> Result<(), Fail> {
-    holds("tasking", Series::Tasking.word() == "tasking")?;
-    holds("scatter", Series::Scatter.word() == "scatter")
+    for (series, word) in &WORDS {
+        holds(word, series.word() == *word)?;
+    }
+    Ok(())
 }
 
 #[test]

@@ -1,6 +1,7 @@
 //! Tables: which routes, slots and tables are such, and what their sums and rates come to.
 
-use crate::tests::fixtures::{holds, in_ticks};
+use crate::tests::fixtures::holds;
+use crate::tests::lent::{Told, tells_of};
 use crate::tests::table_rows::{
     CHAIN, CHAIN_TABLE, FINE_LONE, FIRST, IDLE, RouteRow, SCATTER_TABLE, SECOND, SlotRow, TO_A,
     TO_B, TableRow, route_of, routes_of, slot_of, table_of_row,
@@ -151,21 +152,25 @@ static FITTING: [(&str, TableRow, [bool; 2]); 18] = [
     ),
 ];
 
-fn fits(alloc: Global, timed: &Timed, series: Series, row: &TableRow) -> Result<bool, Fail> {
-    Ok(table_of_row(alloc, row)?.fits(timed, series))
-}
-
 /// Whether a table fits for tasks, and for messages.
-fn fits_each(alloc: Global, timed: &Timed, row: &TableRow) -> Result<[bool; 2], Fail> {
-    Ok([
-        fits(alloc, timed, Series::Tasking, row)?,
-        fits(alloc, timed, Series::Scatter, row)?,
-    ])
+fn fits_each(timed: &Timed, table: &Table) -> [bool; 2] {
+    [
+        table.fits(timed, Series::Tasking),
+        table.fits(timed, Series::Scatter),
+    ]
 }
 
-fn tells_fitting(alloc: Global, timed: &Timed) -> Result<(), Fail> {
-    for (name, row, wanted) in &FITTING {
-        holds(name, fits_each(alloc, timed, row)? == *wanted)?;
+fn fits_each_of_row(alloc: Global, timed: &Timed, row: &TableRow) -> Result<[bool; 2], Fail> {
+    Ok(fits_each(timed, &table_of_row(alloc, row)?))
+}
+
+fn tells_fitting(
+    alloc: Global,
+    timed: &Timed,
+    rows: &[(&str, TableRow, [bool; 2])],
+) -> Result<(), Fail> {
+    for (name, row, wanted) in rows {
+        holds(name, fits_each_of_row(alloc, timed, row)? == *wanted)?;
     }
     Ok(())
 }
@@ -202,58 +207,52 @@ fn tells_which_slots_are_such(rt: HostRuntime) -> Result<(), Fail> {
     tells_lanes(rt.alloc(), routes_of(rt.alloc(), &[TO_A, TO_B])?.as_slice())
 }
 
-/// Tables, and whether their period is that of their slots, and their tasks those of their routes.
-static SUMS: [(&str, TableRow, [bool; 2]); 3] = [
-    ("the chain's table", CHAIN_TABLE, [true, true]),
+/// Whether a table's period is that of its slots, and its tasks those of its routes; and the numerator and the denominator of its rate.
+type Sums = (bool, bool, u128, u128);
+
+/// Tables and their sums.
+static SUMS: [(&str, TableRow, Sums); 4] = [
+    ("the chain's table", CHAIN_TABLE, (true, true, 1, 1)),
     (
         "a period longer than its slots",
         ([3, 2], 2, &[TO_A, TO_B], &[FIRST, IDLE]),
-        [false, true],
+        (false, true, 2, 3),
     ),
     (
         "more tasks than its routes",
         ([2, 3], 2, &[TO_A, TO_B], &[FIRST, IDLE]),
-        [true, false],
+        (true, false, 3, 2),
+    ),
+    (
+        "six tasks in four ticks",
+        ([4, 6], 1, &[(1, 6, 0, &[0])], &[(4, &[(0, 6)])]),
+        (true, true, 3, 2),
     ),
 ];
 
-fn has_sums(timed: &Timed, table: &Table) -> Result<[bool; 2], Fail> {
-    if table.tasks > 3 {
-        return Err(Fail::new("too many tasks"));
+/// The sums of a table of a few tasks; none where there is no rate.
+fn sums(timed: &Timed, table: &Table) -> Option<Sums> {
+    if table.period < 1 || table.tasks > 6 {
+        return None;
     }
-    Ok([has_period(table), has_tasks(timed, Series::Tasking, table)])
+    let rate = table.rate(timed)?;
+    Some((
+        has_period(table),
+        has_tasks(timed, Series::Tasking, table),
+        rate.num(),
+        rate.den(),
+    ))
 }
 
-fn has_sums_of_row(alloc: Global, timed: &Timed, row: &TableRow) -> Result<[bool; 2], Fail> {
-    has_sums(timed, &table_of_row(alloc, row)?)
+fn sums_of_row(alloc: Global, timed: &Timed, row: &TableRow) -> Result<Option<Sums>, Fail> {
+    Ok(sums(timed, &table_of_row(alloc, row)?))
 }
 
 fn tells_sums(alloc: Global, timed: &Timed) -> Result<(), Fail> {
     for (name, row, wanted) in &SUMS {
-        holds(name, has_sums_of_row(alloc, timed, row)? == *wanted)?;
+        holds(name, sums_of_row(alloc, timed, row)? == Some(*wanted))?;
     }
     Ok(())
-}
-
-/// Six tasks in four ticks.
-const SIX_IN_FOUR: TableRow = ([4, 6], 1, &[(1, 6, 0, &[0])], &[(4, &[(0, 6)])]);
-
-/// The numerator and the denominator of a table's rate.
-fn rate(timed: &Timed, table: &Table) -> Option<(u128, u128)> {
-    if table.period < 1 {
-        return None;
-    }
-    let rate = table.rate(timed)?;
-    Some((rate.num(), rate.den()))
-}
-
-fn rate_of_row(alloc: Global, timed: &Timed, row: &TableRow) -> Result<Option<(u128, u128)>, Fail> {
-    Ok(rate(timed, &table_of_row(alloc, row)?))
-}
-
-fn tells_rate(alloc: Global, timed: &Timed) -> Result<(), Fail> {
-    let rate = rate_of_row(alloc, timed, &SIX_IN_FOUR)?;
-    holds("six tasks in four ticks", rate == Some((3, 2)))
 }
 
 /// 600 routes over one link.
@@ -304,22 +303,21 @@ fn tells_long_tables(alloc: Global, timed: &Timed) -> Result<(), Fail> {
     holds("two tasks in the last lane", !fits_long(alloc, timed, 2)?)
 }
 
-fn tells_chain(alloc: Global, timed: &Timed) -> Result<(), Fail> {
+pub(crate) fn tells_chain(alloc: Global, timed: &Timed) -> Result<(), Fail> {
     tells_walks(alloc, timed)?;
-    tells_fitting(alloc, timed)?;
+    tells_fitting(alloc, timed, &FITTING)?;
     tells_sums(alloc, timed)?;
-    tells_rate(alloc, timed)?;
     tells_long_tables(alloc, timed)
 }
 
 #[test]
 fn tells_tables_of_a_chain(rt: HostRuntime) -> Result<(), Fail> {
-    tells_chain(rt.alloc(), &in_ticks(rt.alloc(), CHAIN)?)
+    tells_of(rt.alloc(), CHAIN, Told::Chain)
 }
 
-/// Tables of a master alone, and whether each fits: 2^87 tasks a tick at 999,999,000,000 ticks a time unit are nearly 2^127, and twice
+/// Tables of a master alone, and whether each fits for tasks, and for messages, which no target wants: 2^87 tasks a tick at 999,999,000,000 ticks a time unit are nearly 2^127, and twice
 /// as many are more.
-static RATES: [(&str, TableRow, bool); 2] = [
+static RATES: [(&str, TableRow, [bool; 2]); 2] = [
     (
         "2^87 tasks a tick",
         (
@@ -328,7 +326,7 @@ static RATES: [(&str, TableRow, bool); 2] = [
             &[(0, 154742504910672534362390528, 0, &[])],
             &[IDLE],
         ),
-        true,
+        [true, false],
     ),
     (
         "2^88 tasks a tick",
@@ -338,20 +336,17 @@ static RATES: [(&str, TableRow, bool); 2] = [
             &[(0, 309485009821345068724781056, 0, &[])],
             &[IDLE],
         ),
-        false,
+        [false, false],
     ),
 ];
 
-fn tells_rates(alloc: Global, timed: &Timed) -> Result<(), Fail> {
-    for (name, row, wanted) in &RATES {
-        holds(name, fits(alloc, timed, Series::Tasking, row)? == *wanted)?;
-    }
-    Ok(())
+pub(crate) fn tells_rates(alloc: Global, timed: &Timed) -> Result<(), Fail> {
+    tells_fitting(alloc, timed, &RATES)
 }
 
 #[test]
 fn bounds_rates(rt: HostRuntime) -> Result<(), Fail> {
-    tells_rates(rt.alloc(), &in_ticks(rt.alloc(), FINE_LONE)?)
+    tells_of(rt.alloc(), FINE_LONE, Told::Rates)
 }
 
 /// Routes, each with the tasks and the longest length of all routes up to it. The sum of tasks stops at 2^107 + 1.

@@ -2,7 +2,8 @@
 
 ghost use Rattle.std.specs.Prelude.{◌≡◌, [], ◌∷◌, IfOk};
 
-use crate::tests::fixtures::{holds, in_ticks};
+use crate::tests::fixtures::holds;
+use crate::tests::lent::{Told, tells_of};
 use crate::tests::op_rows::OpRow::{Computed, Sent};
 use crate::tests::op_rows::{OpRow, are_of_op_rows};
 use crate::tests::table_rows::{
@@ -156,7 +157,7 @@ fn is_row_too_long(
     is_too_long(alloc, timed, &table_of_row(alloc, row)?, periods)
 }
 
-fn tells_lengths(alloc: Global, timed: &Timed) -> Result<(), Fail> {
+pub(crate) fn tells_lengths(alloc: Global, timed: &Timed) -> Result<(), Fail> {
     for (name, row, periods, wanted) in &LENGTHS {
         holds(
             name,
@@ -168,7 +169,7 @@ fn tells_lengths(alloc: Global, timed: &Timed) -> Result<(), Fail> {
 
 #[test]
 fn tells_too_many_operations_at_once(rt: HostRuntime) -> Result<(), Fail> {
-    tells_lengths(rt.alloc(), &in_ticks(rt.alloc(), FINE_LONE)?)
+    tells_of(rt.alloc(), FINE_LONE, Told::Lengths)
 }
 
 /// Seven idle ticks.
@@ -203,14 +204,14 @@ fn tells_idle_cut(alloc: Global, timed: &Timed) -> Result<(), Fail> {
     tells_cut(alloc, timed, parts.as_slice())
 }
 
-fn tells_chain(alloc: Global, timed: &Timed) -> Result<(), Fail> {
+pub(crate) fn tells_periods(alloc: Global, timed: &Timed) -> Result<(), Fail> {
     tells_unrolled(alloc, timed)?;
     tells_idle_cut(alloc, timed)
 }
 
 #[test]
 fn unrolls_and_cuts_a_chain(rt: HostRuntime) -> Result<(), Fail> {
-    tells_chain(rt.alloc(), &in_ticks(rt.alloc(), CHAIN)?)
+    tells_of(rt.alloc(), CHAIN, Told::Periods)
 }
 
 #[test]
