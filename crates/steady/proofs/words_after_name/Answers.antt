@@ -12,3 +12,6 @@ returns-in-Ok-collect c =
     let given = YieldsList-from_skip 1 (YieldsList-from_vec (into_iter_items c.in-Ok.all) items size) c.skip.ensures.count in
     let words = items_from_collect c.collect.result c.collect.ensures.ran given in
     rw c.in-Ok.is (subst (λ r. IfOk r (λ w. vec_items w ≡ drop 1 (into_iter_items c.in-Ok.all))) c.in-Ok-collect.is words)
+
+pub returns-in-Err-2 : goal.returns-in-Err-2
+returns-in-Err-2 c = search rules

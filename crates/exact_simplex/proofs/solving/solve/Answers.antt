@@ -19,5 +19,5 @@ returns-clause-optimal g c p lp start =
     let e = c.in_ok-run.ensures in
     rw c.in_ok-optimum.ensures (ended_is_optimal p t lp e.canonical (rw start at e.derived) e.gainless)
 
-pub returns-clause-exact : goal.returns-clause-exact
-returns-clause-exact g c = first_of (search rules, grind (arith, common_steps))
+pub returns-in_err-run-clause-exact : goal.returns-in_err-run-clause-exact
+returns-in_err-run-clause-exact g c = first_of (search rules, grind (arith, common_steps))
