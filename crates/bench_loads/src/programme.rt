@@ -150,7 +150,8 @@ fn gain_of(workers: u32, column: u32) -> i128
 fn gains(alloc: Global, workers: u32) -> Result<Listed<i128>, NoMemory>
     requires { workers ≤ 1000 }
     ensures length { IfOk result (λ gain. length gain ≡ 2 * workers) }
-    ensures gains { IfOk result (λ gain. (j : ℕ) → j < 2 * workers → slice_index_or gain j (pos 0) ≡ cond (nat_lt j workers) (pos 1) (pos 0)) }
+    ensures gains { IfOk result
+        (λ gain. (j : ℕ) → j < 2 * workers → slice_index_or gain j (pos 0) ≡ cond (nat_lt j workers) (pos 1) (pos 0)) }
     ensures small { IfOk result (λ gain. All (λ g. nat_abs g < 2 ^ 127) gain) }
 {
     let mut gain = Listed::new(alloc);

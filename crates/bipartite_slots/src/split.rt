@@ -40,7 +40,8 @@ pub fn slots(alloc: Global, weights: &Weights, total: u128) -> Result<Vec<SlotPa
     requires apart { AreApart weights.now.edges }
     requires within { AreWithin weights.now total }
     ensures parts { IfOk result (λ parts. AreParts weights.now total parts.items) }
-    ensures chosen { IfOk result (λ parts. AreChosen (2 * weights.now.nodes) weights.now.edges (padded weights.now total) total parts.items) }
+    ensures chosen { IfOk result
+        (λ parts. AreChosen (2 * weights.now.nodes) weights.now.edges (padded weights.now total) total parts.items) }
 {
     let mut square = padded(alloc, weights, total)?;
     let columns = Columns::of_square(alloc, &square)?;
@@ -64,7 +65,8 @@ fn split(
     requires cells { (row column : ℕ) → cell square.old row column ≡ padded weights.now total row column }
     requires listed { AreListed columns.now square.old.size (cell square.old) }
     ensures parts { IfOk result (λ parts. AreParts weights.now total parts.items) }
-    ensures chosen { IfOk result (λ parts. AreChosen (2 * weights.now.nodes) weights.now.edges (padded weights.now total) total parts.items) }
+    ensures chosen { IfOk result
+        (λ parts. AreChosen (2 * weights.now.nodes) weights.now.edges (padded weights.now total) total parts.items) }
 {
     let mut seen = vec![in alloc; false; square.size()]?;
     let mut holders = vec![in alloc; None; square.size()]?;
@@ -101,7 +103,8 @@ fn take_parts(
     requires holders { length holders.old ≡ square.old.size }
     requires matching { IsMatching (cell square.old) holders.old }
     ensures parts { IfOk result (λ parts. AreParts weights.now total parts.items) }
-    ensures chosen { IfOk result (λ parts. AreChosen (2 * weights.now.nodes) weights.now.edges (padded weights.now total) total parts.items) }
+    ensures chosen { IfOk result
+        (λ parts. AreChosen (2 * weights.now.nodes) weights.now.edges (padded weights.now total) total parts.items) }
 {
     let mut parts = Vec::new(alloc);
     let mut left = total;
@@ -218,7 +221,8 @@ fn held_edges(
     requires once { HoldsOnce holders.now }
     requires edges { All (λ e. (e.from < length holders.now) × (e.to < length holders.now)) edges.now }
     requires numbers { length edges.now < 2 ^ 32 }
-    ensures { IfOk result (λ numbers. (columns : List ℕ) → AreHeld (length holders.now) holders.now columns → numbers ≡ edges_from 0 edges.now columns) }
+    ensures { IfOk result
+        (λ numbers. (columns : List ℕ) → AreHeld (length holders.now) holders.now columns → numbers ≡ edges_from 0 edges.now columns) }
 {
     let mut numbers = Listed::new(alloc);
     for (number, edge) in edges.iter().enumerate() {
@@ -249,7 +253,8 @@ fn take_one(square: &mut Square, held: &mut Option<usize>, column: usize, by: u1
     requires inside { (row : ℕ) → held.old ≡ Some row → row < square.old.size }
     requires enough { (row : ℕ) → held.old ≡ Some row → by ≤ cell square.old row column }
     ensures size { square.new.size ≡ square.old.size }
-    ensures here { (row : ℕ) → cell square.new row column ≡ cond (is_holder held.old row) (cell square.old row column - by) (cell square.old row column) }
+    ensures here { (row : ℕ)
+        → cell square.new row column ≡ cond (is_holder held.old row) (cell square.old row column - by) (cell square.old row column) }
     ensures elsewhere { (row other : ℕ) → other ≢ column → cell square.new row other ≡ cell square.old row other }
     ensures kept { (row : ℕ) → held.new ≡ Some row → held.old ≡ Some row }
     ensures positive { (row : ℕ) → held.new ≡ Some row → held.old ≡ Some row → 0 < cell square.old row column → 0 < cell square.new row column }

@@ -15,7 +15,7 @@ meaning_of (word.Prices file series pivots) = prices file.now series pivots
 meaning_of (word.Check file certificate series) = check file.now certificate.now series
 meaning_of (word.Audit file other periods) = audit file.now other.now periods
 
--- words are refused where they give no command; want of memory may come at any time
+-- words are refused where they give no command; memory may run out at any time
 abbrev pub IsWordsFault : List Text → WordsFault → Type 0
 IsWordsFault words Usage = command_of words ≡ None
 IsWordsFault words NoMemory = ⊤

@@ -49,7 +49,8 @@ fn found_by<'a>(command: Command<'a>, words: &'a [String]) -> Result<ArgMatches<
     requires simple { is_simple (app_of command) ≡ true }
     requires free { is_simple_and_free (app_of command) ≡ true }
     ensures ok { IfOk result (λ m. found_in (app_of command.entry) (map string_bytes words.entry.now) ≡ Some (rows_of (found_of m))) }
-    ensures err { IfErr result (λ fault. fault ≡ WordsFault.Usage → found_in (app_of command.entry) (map string_bytes words.entry.now) ≡ None) }
+    ensures err { IfErr result
+        (λ fault. fault ≡ WordsFault.Usage → found_in (app_of command.entry) (map string_bytes words.entry.now) ≡ None) }
 {
     match command.try_get_matches_from(words) {
         Ok(matches) => Ok(matches),
@@ -94,7 +95,8 @@ pub(crate) fn found_by_plan<'a>(
     words: &'a [String],
 ) -> Result<ArgMatches<'a>, WordsFault>
     ensures ok { IfOk result (λ m. found_in (plan_app (codes "plan")) (map string_bytes words.entry.now) ≡ Some (rows_of (found_of m))) }
-    ensures err { IfErr result (λ fault. fault ≡ WordsFault.Usage → found_in (plan_app (codes "plan")) (map string_bytes words.entry.now) ≡ None) }
+    ensures err { IfErr result
+        (λ fault. fault ≡ WordsFault.Usage → found_in (plan_app (codes "plan")) (map string_bytes words.entry.now) ≡ None) }
 {
     found_by(plan_command(alloc, "plan")?, words)
 }
@@ -106,7 +108,8 @@ pub(crate) fn found_by_prices<'a>(
     words: &'a [String],
 ) -> Result<ArgMatches<'a>, WordsFault>
     ensures ok { IfOk result (λ m. found_in (plan_app (codes "prices")) (map string_bytes words.entry.now) ≡ Some (rows_of (found_of m))) }
-    ensures err { IfErr result (λ fault. fault ≡ WordsFault.Usage → found_in (plan_app (codes "prices")) (map string_bytes words.entry.now) ≡ None) }
+    ensures err { IfErr result
+        (λ fault. fault ≡ WordsFault.Usage → found_in (plan_app (codes "prices")) (map string_bytes words.entry.now) ≡ None) }
 {
     found_by(plan_command(alloc, "prices")?, words)
 }

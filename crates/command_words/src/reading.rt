@@ -98,7 +98,10 @@ fn audit_of<'a>(matches: &ArgMatches<'a>) -> Option<Command<'a>>
 
 /// What the words of `plan` give.
 fn plan_in(alloc: Global, words: &[String]) -> Result<Command<'_>, WordsFault>
-    ensures { MatchResult result (λ command. option_and_then (with_pivots plan) (found_in (plan_app (codes "plan")) (map string_bytes words.now)) ≡ Some (meaning_of command)) (λ fault. fault ≡ WordsFault.Usage → option_and_then (with_pivots plan) (found_in (plan_app (codes "plan")) (map string_bytes words.now)) ≡ None) }
+    ensures { MatchResult result
+        (λ command. option_and_then (with_pivots plan) (found_in (plan_app (codes "plan")) (map string_bytes words.now)) ≡ Some (meaning_of command))
+        (λ fault. fault ≡ WordsFault.Usage
+            → option_and_then (with_pivots plan) (found_in (plan_app (codes "plan")) (map string_bytes words.now)) ≡ None) }
 {
     let matches = found_by_plan(alloc, words)?;
     plan_of(&matches).ok_or(WordsFault::Usage)
@@ -106,7 +109,11 @@ fn plan_in(alloc: Global, words: &[String]) -> Result<Command<'_>, WordsFault>
 
 /// What the words of `prices` give.
 fn prices_in(alloc: Global, words: &[String]) -> Result<Command<'_>, WordsFault>
-    ensures { MatchResult result (λ command. option_and_then (with_pivots prices) (found_in (plan_app (codes "prices")) (map string_bytes words.now)) ≡ Some (meaning_of command)) (λ fault. fault ≡ WordsFault.Usage → option_and_then (with_pivots prices) (found_in (plan_app (codes "prices")) (map string_bytes words.now)) ≡ None) }
+    ensures { MatchResult result
+        (λ command. option_and_then (with_pivots prices) (found_in (plan_app (codes "prices")) (map string_bytes words.now))
+            ≡ Some (meaning_of command))
+        (λ fault. fault ≡ WordsFault.Usage
+            → option_and_then (with_pivots prices) (found_in (plan_app (codes "prices")) (map string_bytes words.now)) ≡ None) }
 {
     let matches = found_by_prices(alloc, words)?;
     prices_of(&matches).ok_or(WordsFault::Usage)
@@ -114,7 +121,9 @@ fn prices_in(alloc: Global, words: &[String]) -> Result<Command<'_>, WordsFault>
 
 /// What the words of `check` give.
 fn check_in(alloc: Global, words: &[String]) -> Result<Command<'_>, WordsFault>
-    ensures { MatchResult result (λ command. option_and_then check_of (found_in check_app (map string_bytes words.now)) ≡ Some (meaning_of command)) (λ fault. fault ≡ WordsFault.Usage → option_and_then check_of (found_in check_app (map string_bytes words.now)) ≡ None) }
+    ensures { MatchResult result
+        (λ command. option_and_then check_of (found_in check_app (map string_bytes words.now)) ≡ Some (meaning_of command))
+        (λ fault. fault ≡ WordsFault.Usage → option_and_then check_of (found_in check_app (map string_bytes words.now)) ≡ None) }
 {
     let matches = found_by_check(alloc, words)?;
     check_of(&matches).ok_or(WordsFault::Usage)
@@ -122,7 +131,9 @@ fn check_in(alloc: Global, words: &[String]) -> Result<Command<'_>, WordsFault>
 
 /// What the words of `audit` give.
 fn audit_in(alloc: Global, words: &[String]) -> Result<Command<'_>, WordsFault>
-    ensures { MatchResult result (λ command. option_and_then audit_of (found_in audit_app (map string_bytes words.now)) ≡ Some (meaning_of command)) (λ fault. fault ≡ WordsFault.Usage → option_and_then audit_of (found_in audit_app (map string_bytes words.now)) ≡ None) }
+    ensures { MatchResult result
+        (λ command. option_and_then audit_of (found_in audit_app (map string_bytes words.now)) ≡ Some (meaning_of command))
+        (λ fault. fault ≡ WordsFault.Usage → option_and_then audit_of (found_in audit_app (map string_bytes words.now)) ≡ None) }
 {
     let matches = found_by_audit(alloc, words)?;
     audit_of(&matches).ok_or(WordsFault::Usage)
@@ -135,7 +146,9 @@ fn audit_in(alloc: Global, words: &[String]) -> Result<Command<'_>, WordsFault>
 ///
 /// `Usage` exactly where there is no word, the first one is no command, clap refuses the words, or a number or series isn't one.
 pub fn command_in(alloc: Global, words: &[String]) -> Result<Command<'_>, WordsFault>
-    ensures { MatchResult result (λ command. command_of (map string_bytes words.now) ≡ Some (meaning_of command)) (IsWordsFault (map string_bytes words.now)) }
+    ensures { MatchResult result
+        (λ command. command_of (map string_bytes words.now) ≡ Some (meaning_of command))
+        (IsWordsFault (map string_bytes words.now)) }
 {
     let Some(word) = words.first() else {
         return Err(WordsFault::Usage);

@@ -61,7 +61,8 @@ fn change_at(cells: &mut [i128], pivot_row: &[i128], other: u32, column: u32)
     requires fits { row_overflow (length pivot_row.now) (entry pivot_row.now) (cell_of (length pivot_row.now) cells.old other) column ≡ None }
     ensures length { length cells.new ≡ length cells.old }
     ensures beside { (i j : ℕ) → i ≢ other → cell_of (length pivot_row.now) cells.new i j ≡ cell_of (length pivot_row.now) cells.old i j }
-    ensures changed { (j : ℕ) → cell_of (length pivot_row.now) cells.new other j ≡ changed_row (length pivot_row.now) (entry pivot_row.now) (cell_of (length pivot_row.now) cells.old other) column j }
+    ensures changed { (j : ℕ)
+        → cell_of (length pivot_row.now) cells.new other j ≡ changed_row (length pivot_row.now) (entry pivot_row.now) (cell_of (length pivot_row.now) cells.old other) column j }
 {
     let start = other as usize * pivot_row.len();
     let line = &mut cells[start..start + pivot_row.len()];
@@ -73,9 +74,11 @@ fn change_rows(cells: &mut [i128], pivot_row: &[i128], column: u32, rows: u32)
     requires whole { length cells.old ≡ rows * length pivot_row.now }
     requires column { column < length pivot_row.now }
     requires positive { pos 0 <ℤ entry pivot_row.now column }
-    requires fits { (i : ℕ) → i < rows → row_overflow (length pivot_row.now) (entry pivot_row.now) (cell_of (length pivot_row.now) cells.old i) column ≡ None }
+    requires fits { (i : ℕ) → i < rows
+        → row_overflow (length pivot_row.now) (entry pivot_row.now) (cell_of (length pivot_row.now) cells.old i) column ≡ None }
     ensures length { length cells.new ≡ length cells.old }
-    ensures changed { (i j : ℕ) → i < rows → cell_of (length pivot_row.now) cells.new i j ≡ changed_row (length pivot_row.now) (entry pivot_row.now) (cell_of (length pivot_row.now) cells.old i) column j }
+    ensures changed { (i j : ℕ) → i < rows
+        → cell_of (length pivot_row.now) cells.new i j ≡ changed_row (length pivot_row.now) (entry pivot_row.now) (cell_of (length pivot_row.now) cells.old i) column j }
 {
     for other in 0..rows {
         change_at(cells, pivot_row, other, column);
@@ -91,7 +94,8 @@ fn change_others(cells: &mut [i128], width: usize, row: u32, column: u32, rows: 
     requires fits { (i : ℕ) → i < rows → i ≢ row → row_overflow width (cell_of width cells.old row) (cell_of width cells.old i) column ≡ None }
     ensures length { length cells.new ≡ length cells.old }
     ensures kept { (j : ℕ) → cell_of width cells.new row j ≡ cell_of width cells.old row j }
-    ensures changed { (i j : ℕ) → i < rows → i ≢ row → cell_of width cells.new i j ≡ changed_row width (cell_of width cells.old row) (cell_of width cells.old i) column j }
+    ensures changed { (i j : ℕ) → i < rows → i ≢ row
+        → cell_of width cells.new i j ≡ changed_row width (cell_of width cells.old row) (cell_of width cells.old i) column j }
 {
     let (before, rest) = cells.split_at_mut(row as usize * width);
     let (pivot_row, behind) = rest.split_at_mut(width);
@@ -116,7 +120,8 @@ pub fn pivot_cells(
     ensures refused { IsSome result → cells.new ≡ cells.old }
     ensures length { length cells.new ≡ length cells.old }
     ensures kept { IsNone result → (j : ℕ) → cell_of width cells.new row j ≡ cell_of width cells.old row j }
-    ensures changed { IsNone result → (i j : ℕ) → i < rows → i ≢ row → cell_of width cells.new i j ≡ changed_row width (cell_of width cells.old row) (cell_of width cells.old i) column j }
+    ensures changed { IsNone result → (i j : ℕ) → i < rows → i ≢ row
+        → cell_of width cells.new i j ≡ changed_row width (cell_of width cells.old row) (cell_of width cells.old i) column j }
 {
     if let Some(place) = first_overflow(cells, width, row, column, rows) {
         return Some(place);

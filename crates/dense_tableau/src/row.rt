@@ -90,7 +90,8 @@ fn overflows_at(by: &Multipliers, cell: i128, pivot_cell: i128) -> bool
 fn overflow_along(row: &[i128], pivot_row: &[i128], by: &Multipliers, column: u32) -> Option<u32>
     requires same { length row.now ≡ length pivot_row.now }
     requires narrow { length row.now < 2 ^ 32 }
-    ensures { result ≡ first_below (length row.now) (λ j. cond (nat_eq j column) false (is_none (fitting_combination by.now.own (entry row.now j) by.now.pivot (entry pivot_row.now j)))) }
+    ensures { result
+        ≡ first_below (length row.now) (λ j. cond (nat_eq j column) false (is_none (fitting_combination by.now.own (entry row.now j) by.now.pivot (entry pivot_row.now j)))) }
 {
     for j in 0..row.len() as u32 {
         if j != column && overflows_at(by, row[j as usize], pivot_row[j as usize]) {
@@ -153,7 +154,8 @@ fn combine_at(row: &mut [i128], pivot_row: &[i128], by: &Multipliers, j: usize)
 /// Makes a row its combination with the pivot's row, which is 0 in the pivot's column.
 fn combine(row: &mut [i128], pivot_row: &[i128], by: &Multipliers, column: u32)
     requires same { length row.old ≡ length pivot_row.now }
-    requires fits { (j : ℕ) → j < length row.old → j ≢ column → IsSome (fitting_combination by.now.own (entry row.old j) by.now.pivot (entry pivot_row.now j)) }
+    requires fits { (j : ℕ) → j < length row.old → j ≢ column
+        → IsSome (fitting_combination by.now.own (entry row.old j) by.now.pivot (entry pivot_row.now j)) }
     ensures length { length row.new ≡ length row.old }
     ensures cells { (j : ℕ) → j < length row.old → j ≢ column → entry row.new j ≡ by.now.own *ℤ entry row.old j -ℤ by.now.pivot *ℤ entry pivot_row.now j }
     ensures zero { column < length row.old → entry row.new column ≡ pos 0 }

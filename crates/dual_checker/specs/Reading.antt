@@ -111,7 +111,7 @@ from_header rows (Err fault) = Err fault
 abbrev pub certificate_of : Series → ℕ → List ℕ → Result CertificateView CertificateFault
 certificate_of series rows bytes = from_header rows (after_text 1 (header_text series) bytes)
 
--- the fault is the one with which this ends; want of memory may come at any time
+-- the fault is the one with which this ends; memory may run out at any time
 abbrev pub IsFault : {A : Type 0} → CertificateFault → Result A CertificateFault → Type 0
 IsFault NoMemory read = ⊤
 IsFault fault read = read ≡ Err fault

@@ -1,4 +1,4 @@
--- What the check of a certificate says, in whole numbers without bound, with the column at which a sum passes 2^127 - 1.
+-- What the check of a certificate says, in whole numbers without bound, with the column at which a sum exceeds 2^127 - 1.
 use Rattle.std.specs.Prelude.{ℕ, zero, suc, ℤ, pos, ◌+ℤ◌, ◌*ℤ◌, ◌≤ℤ◌, List, length, Option, Some, None, option_and_then, cond, slice_index_or}
 use Rattle.std.specs.Prelude.{int_lt}
 use Rattle.linear_program.specs.Certificates.{CertificateView}
@@ -61,7 +61,7 @@ pub record IsProof (p : LpView) (c : CertificateView) : Type 0 where
   pub dual : IsDualFeasible p c.prices c.scale
   pub value : priced_sides p.rows c.prices ≤ℤ c.best
 
--- it proves, or a sum of the check passes 2^127 - 1
+-- it proves, or a sum of the check exceeds 2^127 - 1
 abbrev pub ProvesOrOverflows : Verdict → Type 0
 ProvesOrOverflows Proves = Unit {0}
 ProvesOrOverflows (Overflow j) = Unit {0}

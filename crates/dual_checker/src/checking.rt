@@ -161,7 +161,8 @@ pub fn check(lp: &Lp, certificate: &Certificate) -> Verdict
     requires { length certificate.now.prices ≡ length lp.now.rows }
     ensures verdict { result ≡ verdict_of lp.now certificate.now }
     ensures proof { result ≡ Verdict.Proves → IsProof lp.now certificate.now }
-    ensures rate { (t : TimedView) → IsTimed t → lp.now ≡ tasking_programme t → result ≡ Verdict.Proves → IsUpperRate t Tasking (nat_abs certificate.now.best * t.unit) (nat_abs certificate.now.scale) }
+    ensures rate { (t : TimedView) → IsTimed t → lp.now ≡ tasking_programme t → result ≡ Verdict.Proves
+        → IsUpperRate t Tasking (nat_abs certificate.now.best * t.unit) (nat_abs certificate.now.scale) }
     ensures complete { IsProof lp.now certificate.now → ProvesOrOverflows result }
 {
     certificate.known();

@@ -42,7 +42,9 @@ pub(crate) fn header(series: Series) -> &'static str
 
 /// What is left after a line of this text, which is to be the line of this number.
 fn after_text<'a>(number: u64, text: &[u8], bytes: &'a [u8]) -> Result<&'a [u8], CertificateFault>
-    ensures { MatchResult result (λ rest. after_text number text.now bytes.now ≡ Ok rest.now) (λ fault. after_text number text.now bytes.now ≡ Err fault) }
+    ensures { MatchResult result
+        (λ rest. after_text number text.now bytes.now ≡ Ok rest.now)
+        (λ fault. after_text number text.now bytes.now ≡ Err fault) }
 {
     match first_line(bytes) {
         Some((line, rest)) if line == text => Ok(rest),
@@ -52,7 +54,9 @@ fn after_text<'a>(number: u64, text: &[u8], bytes: &'a [u8]) -> Result<&'a [u8],
 
 /// What is left after the line of the number of rows.
 fn after_rows<'a>(alloc: Global, rows: u32, bytes: &'a [u8]) -> Result<&'a [u8], CertificateFault>
-    ensures { MatchResult result (λ rest. after_text 2 (codes "rows " ++ decimal rows) bytes.now ≡ Ok rest.now) (λ fault. IsFault fault (after_text 2 (codes "rows " ++ decimal rows) bytes.now)) }
+    ensures { MatchResult result
+        (λ rest. after_text 2 (codes "rows " ++ decimal rows) bytes.now ≡ Ok rest.now)
+        (λ fault. IsFault fault (after_text 2 (codes "rows " ++ decimal rows) bytes.now)) }
 {
     let text = rows_text(alloc, rows)?;
     after_text(2, text.as_bytes(), bytes)
@@ -85,7 +89,9 @@ fn number_after<'a>(
     least: i128,
     bytes: &'a [u8],
 ) -> Result<(i128, &'a [u8]), CertificateFault>
-    ensures value { MatchResult result (λ found. number_after number word.now least bytes.now ≡ Ok (found.0, found.1.now)) (λ fault. number_after number word.now least bytes.now ≡ Err fault) }
+    ensures value { MatchResult result
+        (λ found. number_after number word.now least bytes.now ≡ Ok (found.0, found.1.now))
+        (λ fault. number_after number word.now least bytes.now ≡ Err fault) }
     ensures bound { IfOk result (λ found. least ≤ℤ found.0) }
     ensures small { IfOk result (λ found. nat_abs found.0 < 2 ^ 127) }
 {
@@ -115,7 +121,9 @@ fn read_prices<'a>(
     bytes: &'a [u8],
 ) -> Result<&'a [u8], CertificateFault>
     requires { prices.old ≡ [] }
-    ensures value { MatchResult result (λ rest. prices_of rows bytes.now ≡ Ok (prices.new, rest.now)) (λ fault. IsFault fault (prices_of rows bytes.now)) }
+    ensures value { MatchResult result
+        (λ rest. prices_of rows bytes.now ≡ Ok (prices.new, rest.now))
+        (λ fault. IsFault fault (prices_of rows bytes.now)) }
     ensures small { OnOk result (All (λ price. nat_abs price < 2 ^ 127) prices.new) }
     ensures rows { OnOk result (length prices.new ≡ rows) }
 {
@@ -145,7 +153,9 @@ fn read_priced(
     requires scale { pos 1 ≤ℤ scale }
     requires best { pos 0 ≤ℤ best }
     requires small { (nat_abs scale < 2 ^ 127) × (nat_abs best < 2 ^ 127) }
-    ensures value { MatchResult result (λ c. priced rows scale best (prices_of rows bytes.now) ≡ Ok c) (λ fault. IsFault fault (priced rows scale best (prices_of rows bytes.now))) }
+    ensures value { MatchResult result
+        (λ c. priced rows scale best (prices_of rows bytes.now) ≡ Ok c)
+        (λ fault. IsFault fault (priced rows scale best (prices_of rows bytes.now))) }
     ensures rows { IfOk result (λ c. length c.prices ≡ rows) }
 {
     let mut prices = Listed::new(alloc);
@@ -172,7 +182,9 @@ pub fn read_certificate(
     rows: u32,
     bytes: &[u8],
 ) -> Result<Certificate, CertificateFault>
-    ensures value { MatchResult result (λ c. certificate_of series rows bytes.now ≡ Ok c) (λ fault. IsFault fault (certificate_of series rows bytes.now)) }
+    ensures value { MatchResult result
+        (λ c. certificate_of series rows bytes.now ≡ Ok c)
+        (λ fault. IsFault fault (certificate_of series rows bytes.now)) }
     ensures rows { IfOk result (λ c. length c.prices ≡ rows) }
 {
     let rest = after_text(1, header(series).as_bytes(), bytes)?;

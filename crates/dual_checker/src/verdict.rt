@@ -11,7 +11,7 @@ pub enum Verdict {
     Column(u32),
     /// The prices of the right-hand sides sum to more than the best.
     Value,
-    /// A product or a partial sum of this column passes 2^127 - 1 in size, and no column before it is at fault; the number of the columns
+    /// A product or a partial sum of this column exceeds 2^127 - 1 in size, and no column before it is at fault; the number of the columns
     /// stands for the right-hand sides.
     Overflow(u32),
 }

@@ -70,7 +70,8 @@ fn leaving<T: Tableau>(table: &T, column: u32) -> Option<u32>
 pub fn run<T: Tableau>(table: &mut T, limit: u64) -> Result<(), SolveFault>
     requires { IsBoundedStart (T.table table.old) }
     ensures ended { OnOk result (bland_run limit (T.table table.old) ≡ Run.ended (T.table table.new)) }
-    ensures overflow { (n i j : ℕ) → result ≡ Err (SolveFault.Overflow n i j) → bland_run limit (T.table table.old) ≡ Run.overflow n i j (T.table table.new) }
+    ensures overflow { (n i j : ℕ) → result ≡ Err (SolveFault.Overflow n i j)
+        → bland_run limit (T.table table.old) ≡ Run.overflow n i j (T.table table.new) }
     ensures spent { (n : ℕ) → result ≡ Err (SolveFault.Spent n) → n ≡ limit × bland_run limit (T.table table.old) ≡ Run.spent (T.table table.new) }
     ensures reached { IsReached limit (T.table table.old) (T.table table.new) }
     ensures gainless { OnOk result (HasEnded (T.table table.new)) }

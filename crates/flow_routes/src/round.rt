@@ -34,7 +34,8 @@ pub fn round(
     requires not_master { served.node ≢ master }
     requires demand { 0 < served.demand }
     requires kept { IsKept master links.now amounts.old (only served.node served.demand) }
-    ensures route { IfOk result (λ found. IfSome found (λ route. IsRouteRound master served.kind links.now amounts.old served.demand served.node route amounts.new)) }
+    ensures route { IfOk result
+        (λ found. IfSome found (λ route. IsRouteRound master served.kind links.now amounts.old served.demand served.node route amounts.new)) }
     ensures cycle { IfOk result (λ found. IfNone found (IsCycleRound master links.now amounts.old served.node amounts.new)) }
     ensures length { length amounts.new ≡ length amounts.old }
     ensures marks { length marked.new ≡ length marked.old }
@@ -75,7 +76,8 @@ fn cancel_cycle(links: &[(u32, u32)], amounts: &mut [u128], path: &[u32], end: u
     requires lengths { length amounts.old ≡ length links.now }
     requires clear { IsClear amounts.old path.now }
     requires met { (place : ℕ) × (place < length path.now) × (node_on links.now path.now place ≡ end) }
-    ensures cycle { (master node : ℕ) → IsBackWalk master links.now amounts.old node path.now end → IsCycleRound master links.now amounts.old node amounts.new }
+    ensures cycle { (master node : ℕ) → IsBackWalk master links.now amounts.old node path.now end
+        → IsCycleRound master links.now amounts.old node amounts.new }
     ensures length { length amounts.new ≡ length amounts.old }
 {
     let begin = place_of(links, path, end);

@@ -72,7 +72,8 @@ fn serve(
     requires exist { LinksExist links.now (length marked.old) }
     requires node { served.node < length marked.old }
     requires kept { IsKept master links.now amounts.old (only served.node served.demand) }
-    ensures appended { OnOk result (HasAppended routes.old routes.new (λ own. IsNodeServed master served.kind links.now served.node served.demand amounts.old own amounts.new)) }
+    ensures appended { OnOk result
+        (HasAppended routes.old routes.new (λ own. IsNodeServed master served.kind links.now served.node served.demand amounts.old own amounts.new)) }
     ensures length { length amounts.new ≡ length amounts.old }
     ensures marks { length marked.new ≡ length marked.old }
 {

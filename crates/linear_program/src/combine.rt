@@ -23,7 +23,7 @@ fn fitting_difference(a: i128, b: i128) -> Option<i128>
     }
 }
 
-/// `p * a - q * b`, where neither a product nor the difference passes 2^127 - 1 in size.
+/// `p * a - q * b`, where neither a product nor the difference exceeds 2^127 - 1 in size.
 pub fn combined(p: i128, a: i128, q: i128, b: i128) -> Option<i128>
     ensures { result ≡ fitting_combination p a q b }
 {

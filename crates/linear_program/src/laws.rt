@@ -14,12 +14,14 @@ pub fn prices_bound_gains()
 
 /// A pivot keeps the solutions of the rows, both ways.
 pub fn pivots_keep_solutions()
-    ensures { (t u : TableauView) (row column : ℕ) → row < t.constraints → pos 0 <ℤ t.cell row column → pivoted t row column ≡ Pivoted.table u → SameSolutions t u }
+    ensures { (t u : TableauView) (row column : ℕ) → row < t.constraints → pos 0 <ℤ t.cell row column → pivoted t row column ≡ Pivoted.table u
+        → SameSolutions t u }
 {}
 
 /// The start table has what every table of a run keeps, and a pivot in a row of least ratio keeps it.
 pub fn runs_keep_tables()
     ensures start { (p : LpView) → IsLp p → IsCanonical (start_table p) × IsDerived (start_table p) (start_table p) }
-    ensures canonical { (t u : TableauView) (row column : ℕ) → IsCanonical t → IsPivoted t u row column → column < objective_column t → HasLeastRatio t column row → IsCanonical u }
+    ensures canonical { (t u : TableauView) (row column : ℕ) → IsCanonical t → IsPivoted t u row column → column < objective_column t
+        → HasLeastRatio t column row → IsCanonical u }
     ensures derived { (s t u : TableauView) (row column : ℕ) → IsDerived s t → IsPivoted t u row column → row ≤ t.constraints → IsDerived s u }
 {}

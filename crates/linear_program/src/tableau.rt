@@ -12,7 +12,7 @@ use std::alloc::Global;
 /// Why a pivot was refused. The table is then as before.
 #[derive(Clone, Copy, Debug, PartialEq, Eq)]
 pub enum PivotFault {
-    /// A product or a difference passes 2^127 - 1 in size; this cell is the first such one, in the order of rows and then of columns.
+    /// A product or a difference exceeds 2^127 - 1 in size; this cell is the first such one, in the order of rows and then of columns.
     Overflow { row: u32, column: u32 },
     /// Memory ran out.
     NoMemory,

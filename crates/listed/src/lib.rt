@@ -1,4 +1,4 @@
-//! What every crate of Steady stands on: lists as contracts see them, and want of memory.
+//! What every crate of Steady stands on: lists as contracts see them, and the error of a call that ran out of memory.
 #![tactic(auto)]
 
 mod list;

@@ -1,4 +1,4 @@
-//! Want of memory.
+//! The error of a call that ran out of memory.
 
 use std::alloc::{AllocError, AllocFailed};
 

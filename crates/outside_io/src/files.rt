@@ -16,13 +16,17 @@ pub trait Files: Drop {
     /// Makes the named file the current one, at its first byte. `Failed` comes only where the count of faults rose, or where
     /// the object tells that there is no such file.
     fn open(&mut self, name: &str) -> Result<(), Failed>
-        ensures { MatchResult result (λ _. IsOpened (state self.old) name.now (state self.new)) (λ _. IsNotOpened (state self.old) name.now (state self.new)) };
+        ensures { MatchResult result
+            (λ _. IsOpened (state self.old) name.now (state self.new))
+            (λ _. IsNotOpened (state self.old) name.now (state self.new)) };
 
     /// Takes the next bytes, at most as many as the buffer holds, and answers how many. An answer of 0 for a buffer that
     /// isn't empty is the end of the file. `Failed` takes nothing and comes only where the count of faults rose.
     fn read(&mut self, into: &mut [u8]) -> Result<usize, Failed>
         requires { (state self.old).ready ≡ true }
-        ensures { MatchResult result (λ count. IsRead (state self.old) into.old into.new count (state self.new)) (λ _. IsNotRead (state self.old) (state self.new)) };
+        ensures { MatchResult result
+            (λ count. IsRead (state self.old) into.old into.new count (state self.new))
+            (λ _. IsNotRead (state self.old) (state self.new)) };
 }
 
 /// Why a file was not read whole.
@@ -59,7 +63,9 @@ fn read_through<F: Files>(
     requires room { length buffer.old ≡ min CHUNK (most + 1) }
     requires ready { (F.state files.old).ready ≡ true }
     requires begins { (F.state files.old).taken ≡ 0 }
-    ensures { MatchResult result (λ bytes. IsReadOut (F.state files.old) most bytes.items (F.state files.new)) (λ end. IsNotReadOut (F.state files.old) most end (F.state files.new)) }
+    ensures { MatchResult result
+        (λ bytes. IsReadOut (F.state files.old) most bytes.items (F.state files.new))
+        (λ end. IsNotReadOut (F.state files.old) most end (F.state files.new)) }
 {
     let mut bytes = Vec::new(alloc);
     while (bytes.len() as u64) <= most {
@@ -83,7 +89,9 @@ fn read_to_end<F: Files>(alloc: Global, files: &mut F, most: u64) -> Result<Vec<
     requires small { most < 2 ^ 64 - 1 }
     requires ready { (F.state files.old).ready ≡ true }
     requires begins { (F.state files.old).taken ≡ 0 }
-    ensures { MatchResult result (λ bytes. IsReadOut (F.state files.old) most bytes.items (F.state files.new)) (λ end. IsNotReadOut (F.state files.old) most end (F.state files.new)) }
+    ensures { MatchResult result
+        (λ bytes. IsReadOut (F.state files.old) most bytes.items (F.state files.new))
+        (λ end. IsNotReadOut (F.state files.old) most end (F.state files.new)) }
 {
     let size = CHUNK.min(most + 1) as usize;
     let mut buffer = vec![in alloc; 0u8; size]?;
@@ -100,7 +108,9 @@ pub fn read_whole<F: Files>(
     most: u64,
 ) -> Result<Vec<u8>, ReadEnd>
     requires { most < 2 ^ 64 - 1 }
-    ensures { MatchResult result (λ bytes. IsWholeRead (F.state files.old) name.now most bytes.items (F.state files.new)) (λ end. IsReadEnd (F.state files.old) name.now most end (F.state files.new)) }
+    ensures { MatchResult result
+        (λ bytes. IsWholeRead (F.state files.old) name.now most bytes.items (F.state files.new))
+        (λ end. IsReadEnd (F.state files.old) name.now most end (F.state files.new)) }
 {
     match files.open(name) {
         Ok(()) => read_to_end(alloc, files, most),

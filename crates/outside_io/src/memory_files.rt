@@ -45,7 +45,8 @@ impl Model for MemoryFiles {
 
 /// The place of the first entry with a name.
 fn place_of(entries: &[(String, Vec<u8>)], name: &str) -> Option<usize>
-    ensures { MatchOption result (told_by (map entry_view entries.now) name.now ≡ absent) (λ place. MatchOption (place_bytes entries.now place) ⊥ (λ file. told_by (map entry_view entries.now) name.now ≡ contents file)) }
+    ensures { MatchOption result (told_by (map entry_view entries.now) name.now ≡ absent)
+        (λ place. MatchOption (place_bytes entries.now place) ⊥ (λ file. told_by (map entry_view entries.now) name.now ≡ contents file)) }
 {
     for (place, entry) in entries.iter().enumerate() {
         if entry.0.as_str() == name {
@@ -60,7 +61,8 @@ fn take_from(entries: &[(String, Vec<u8>)], place: usize, taken: usize, into: &m
     requires { MatchOption (place_bytes entries.now place) ⊥ (λ file. taken ≤ length file) }
     ensures within { result ≤ length into.old }
     ensures taken { MatchOption (place_bytes entries.now place) ⊥ (λ file. taken + result ≤ length file) }
-    ensures bytes { IfSome (place_bytes entries.now place) (λ file. into.new ≡ slice_range file taken (taken + result) ++ drop result into.old) }
+    ensures bytes { IfSome (place_bytes entries.now place)
+        (λ file. into.new ≡ slice_range file taken (taken + result) ++ drop result into.old) }
     ensures ending { IfSome (place_bytes entries.now place) (λ file. 0 < length into.old → (result ≡ 0) ↔ (taken ≡ length file)) }
 {
     let rest = &entries[place].1[taken..];
@@ -73,7 +75,8 @@ impl MemoryFiles {
     /// Files with these names and contents; of two entries of one name the first counts. Opens and reads are numbered
     /// together from 0, and those listed in `failing` fail.
     pub fn new(files: Vec<(String, Vec<u8>)>, failing: Vec<u64>) -> MemoryFiles
-        ensures { result ≡ record { entries = map entry_view files.items; failing = failing.items; calls = 0; current = None; taken = 0; ready = false; faults = 0; opens = 0 } }
+        ensures { result
+            ≡ record { entries = map entry_view files.items; failing = failing.items; calls = 0; current = None; taken = 0; ready = false; faults = 0; opens = 0 } }
     {
         MemoryFiles {
             entries: files,
@@ -101,7 +104,9 @@ impl Files for MemoryFiles {
     ghost state = { λ files. files_state files };
 
     fn open(&mut self, name: &str) -> Result<(), Failed>
-        ensures open { MatchResult result (λ _. IsOpened (files_state self.old) name.now (files_state self.new)) (λ _. IsNotOpened (files_state self.old) name.now (files_state self.new)) }
+        ensures open { MatchResult result
+            (λ _. IsOpened (files_state self.old) name.now (files_state self.new))
+            (λ _. IsNotOpened (files_state self.old) name.now (files_state self.new)) }
         ensures exact { IsErr result ↔ (IsTrue (is_listed self.old.calls self.old.failing) ⊎ (told_by self.old.entries name.now ≡ absent)) }
     {
         let fails = self.is_to_fail();
@@ -124,7 +129,9 @@ impl Files for MemoryFiles {
 
     fn read(&mut self, into: &mut [u8]) -> Result<usize, Failed>
         requires { self.old.ready ≡ true }
-        ensures read { MatchResult result (λ count. IsRead (files_state self.old) into.old into.new count (files_state self.new)) (λ _. IsNotRead (files_state self.old) (files_state self.new)) }
+        ensures read { MatchResult result
+            (λ count. IsRead (files_state self.old) into.old into.new count (files_state self.new))
+            (λ _. IsNotRead (files_state self.old) (files_state self.new)) }
         ensures exact { IsErr result ↔ IsTrue (is_listed self.old.calls self.old.failing) }
     {
         if self.is_to_fail() {

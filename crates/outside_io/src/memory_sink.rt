@@ -79,7 +79,9 @@ impl Sink for MemorySink {
     ghost state = { λ sink. sink_state sink };
 
     fn write(&mut self, bytes: &[u8]) -> Result<usize, Failed>
-        ensures write { MatchResult result (λ count. IsWritten (sink_state self.old) bytes.now count (sink_state self.new)) (λ _. IsNotWritten (sink_state self.old) (sink_state self.new)) }
+        ensures write { MatchResult result
+            (λ count. IsWritten (sink_state self.old) bytes.now count (sink_state self.new))
+            (λ _. IsNotWritten (sink_state self.old) (sink_state self.new)) }
         ensures count { IfOk result (λ count. count ≡ min (length bytes.now) (min self.old.most self.old.room)) }
         ensures exact { IsErr result ↔ (IsTrue (is_listed self.old.calls self.old.failing) ⊎ ((self.old.room ≡ 0) × (0 < length bytes.now))) }
     {

@@ -15,12 +15,16 @@ pub trait Sink: Drop {
     /// Takes a front of the bytes, at least one where there is one, and answers how many. `Failed` takes nothing and comes
     /// only where the count of faults rose.
     fn write(&mut self, bytes: &[u8]) -> Result<usize, Failed>
-        ensures { MatchResult result (λ count. IsWritten (state self.old) bytes.now count (state self.new)) (λ _. IsNotWritten (state self.old) (state self.new)) };
+        ensures { MatchResult result
+            (λ count. IsWritten (state self.old) bytes.now count (state self.new))
+            (λ _. IsNotWritten (state self.old) (state self.new)) };
 }
 
 /// Writes all of the bytes. After `Failed` a front of them is out, and the count of faults rose.
 pub fn write_whole<S: Sink>(out: &mut S, bytes: &[u8]) -> Result<(), Failed>
-    ensures { MatchResult result (λ _. IsWholeWritten (S.state out.old) bytes.now (S.state out.new)) (λ _. IsCutOff (S.state out.old) bytes.now (S.state out.new)) }
+    ensures { MatchResult result
+        (λ _. IsWholeWritten (S.state out.old) bytes.now (S.state out.new))
+        (λ _. IsCutOff (S.state out.old) bytes.now (S.state out.new)) }
 {
     let mut done = 0;
     while done < bytes.len() {

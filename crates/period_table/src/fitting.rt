@@ -111,7 +111,8 @@ impl Table {
     /// The table's rate in tasks per time unit, where its numerator is at most 2^127.
     pub fn rate(&self, timed: &Timed) -> Option<Ratio>
         requires { 1 ≤ self.now.period }
-        ensures { result ≡ cond (nat_le (reduced (self.now.tasks * timed.now.unit) self.now.period).num (2 ^ 127)) (Some (reduced (self.now.tasks * timed.now.unit) self.now.period)) None }
+        ensures { result
+            ≡ cond (nat_le (reduced (self.now.tasks * timed.now.unit) self.now.period).num (2 ^ 127)) (Some (reduced (self.now.tasks * timed.now.unit) self.now.period)) None }
     {
         product_within(self.tasks, u128::from(timed.unit()), self.period, MOST_RATE)
     }

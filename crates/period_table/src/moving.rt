@@ -16,7 +16,8 @@ const WINDOW: usize = 512;
 fn add_pieces(moved: &mut [u128], pieces: &[Piece], first: u128)
     requires size { length moved.old ≡ 512 }
     ensures size { length moved.new ≡ 512 }
-    ensures sums { (k : ℕ) → k < 512 → min (get_or moved.new k 0) (2 ^ 100 + 1) ≡ min (get_or moved.old k 0 + sum_by (λ piece. cond (nat_eq piece.lane (first + k)) piece.count 0) pieces.now) (2 ^ 100 + 1) }
+    ensures sums { (k : ℕ) → k < 512
+        → min (get_or moved.new k 0) (2 ^ 100 + 1) ≡ min (get_or moved.old k 0 + sum_by (λ piece. cond (nat_eq piece.lane (first + k)) piece.count 0) pieces.now) (2 ^ 100 + 1) }
 {
     for piece in pieces {
         let lane = u128::from(piece.lane);
@@ -31,8 +32,10 @@ fn add_pieces(moved: &mut [u128], pieces: &[Piece], first: u128)
 fn is_route_moved(moved: &[u128], first: u128, lane: u128, route: &Route) -> bool
     requires size { length moved.now ≡ 512 }
     requires few { lane + length route.now.links < 2 ^ 128 }
-    ensures yes { result ≡ true → (k : ℕ) → k < 512 → lane ≤ first + k → first + k < lane + length route.now.links → get_or moved.now k 0 ≡ route.now.count }
-    ensures no { ((k : ℕ) → k < 512 → lane ≤ first + k → first + k < lane + length route.now.links → get_or moved.now k 0 ≡ route.now.count) → result ≡ true }
+    ensures yes { result ≡ true → (k : ℕ) → k < 512 → lane ≤ first + k → first + k < lane + length route.now.links
+        → get_or moved.now k 0 ≡ route.now.count }
+    ensures no { ((k : ℕ) → k < 512 → lane ≤ first + k → first + k < lane + length route.now.links → get_or moved.now k 0 ≡ route.now.count)
+        → result ≡ true }
 {
     let from = lane.saturating_sub(first).min(512) as usize;
     let end = lane + route.links.len() as u128;
@@ -49,8 +52,10 @@ fn is_route_moved(moved: &[u128], first: u128, lane: u128, route: &Route) -> boo
 fn is_window_moved(moved: &[u128], first: u128, routes: &[Route]) -> bool
     requires size { length moved.now ≡ 512 }
     requires few { length (lanes_of routes.now) < 2 ^ 128 }
-    ensures yes { result ≡ true → (k : ℕ) → k < 512 → first + k < length (lanes_of routes.now) → get_or moved.now k 0 ≡ (lane_at (lanes_of routes.now) (first + k)).count }
-    ensures no { ((k : ℕ) → k < 512 → first + k < length (lanes_of routes.now) → get_or moved.now k 0 ≡ (lane_at (lanes_of routes.now) (first + k)).count) → result ≡ true }
+    ensures yes { result ≡ true → (k : ℕ) → k < 512 → first + k < length (lanes_of routes.now)
+        → get_or moved.now k 0 ≡ (lane_at (lanes_of routes.now) (first + k)).count }
+    ensures no { ((k : ℕ) → k < 512 → first + k < length (lanes_of routes.now) → get_or moved.now k 0 ≡ (lane_at (lanes_of routes.now) (first + k)).count)
+        → result ≡ true }
 {
     let mut lane = 0;
     for route in routes {
@@ -76,8 +81,10 @@ fn moved_from(slots: &[Slot], first: u128) -> [u128; WINDOW]
 /// Whether the slots move over each lane what its route carries. Takes no memory, and a pass over the slots for each 512 lanes.
 pub fn are_moved(slots: &[Slot], routes: &[Route]) -> bool
     requires bounded { All (λ route. route.count ≤ 2 ^ 100) routes.now }
-    ensures yes { result ≡ true → (lane : ℕ) → lane < length (lanes_of routes.now) → moved_over lane slots.now ≡ (lane_at (lanes_of routes.now) lane).count }
-    ensures no { ((lane : ℕ) → lane < length (lanes_of routes.now) → moved_over lane slots.now ≡ (lane_at (lanes_of routes.now) lane).count) → result ≡ true }
+    ensures yes { result ≡ true → (lane : ℕ) → lane < length (lanes_of routes.now)
+        → moved_over lane slots.now ≡ (lane_at (lanes_of routes.now) lane).count }
+    ensures no { ((lane : ℕ) → lane < length (lanes_of routes.now) → moved_over lane slots.now ≡ (lane_at (lanes_of routes.now) lane).count)
+        → result ≡ true }
 {
     let lanes = lane_count(routes);
     let mut first = 0;

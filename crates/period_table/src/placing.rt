@@ -32,7 +32,8 @@ fn place_sends(
     count: u128,
 ) -> Result<(), NoMemory>
     requires short { start + count * lasts < 2 ^ 128 }
-    ensures ok { OnOk result (out.new.items ≡ out.old.items ++ one_after_another (λ s. record { op = Op.Send link kind s; lane = lane }) lasts start count) }
+    ensures ok { OnOk result
+        (out.new.items ≡ out.old.items ++ one_after_another (λ s. record { op = Op.Send link kind s; lane = lane }) lasts start count) }
 {
     let mut left = count;
     let mut next = start;
@@ -62,7 +63,8 @@ fn place_pieces(
     requires links { All (λ lane. lane.link < length timed.now.platform.links) lanes.now }
     requires few { sum_by (λ piece. piece.count) (filter (has_batch lanes.now period) pieces.now) ≤ 4000000 }
     requires short { start < 2 ^ 127 }
-    ensures ok { OnOk result (out.new.items ≡ out.old.items ++ sends_of_pieces timed.now lanes.now start [] (filter (has_batch lanes.now period) pieces.now)) }
+    ensures ok { OnOk result
+        (out.new.items ≡ out.old.items ++ sends_of_pieces timed.now lanes.now start [] (filter (has_batch lanes.now period) pieces.now)) }
 {
     timed.known();
     let mut used = [0u128; LINKS];
@@ -111,7 +113,8 @@ fn place_computes(
     requires nodes { All (λ route. route.end < length timed.now.platform.nodes) routes.now }
     requires few { sum_by (λ route. route.count) (filter (has_arrived period) routes.now) ≤ 4000000 }
     requires short { start < 2 ^ 127 }
-    ensures ok { OnOk result (out.new.items ≡ out.old.items ++ computes_of_routes timed.now start [] (filter (has_arrived period) routes.now)) }
+    ensures ok { OnOk result
+        (out.new.items ≡ out.old.items ++ computes_of_routes timed.now start [] (filter (has_arrived period) routes.now)) }
 {
     timed.known();
     let mut used = [0u128; NODES];

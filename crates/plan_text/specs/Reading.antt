@@ -223,7 +223,7 @@ pub record IsSecondFault (t : TimedView) (bytes : List ℕ) (number : ℕ) : Typ
 abbrev pub IsFaultAt : TimedView → List ℕ → ℕ → Type 0
 IsFaultAt t bytes number = IsFirstFault t bytes number ⊎ IsSecondFault t bytes number
 
--- why a text is no plan; want of memory may come at any time
+-- why a text is no plan; memory may run out at any time
 abbrev pub IsPlanTextFault : TimedView → List ℕ → PlanTextFault → Type 0
 IsPlanTextFault t bytes (Line number) = IsFaultAt t bytes number
 IsPlanTextFault t bytes NoMemory = ⊤

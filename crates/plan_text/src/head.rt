@@ -41,7 +41,8 @@ impl Model for Head {
 
 /// The series of a header.
 fn series_in(timed: &Timed, text: &[u8]) -> Option<Series>
-    ensures { MatchOption result ((series : Series) → IsHeaderLine timed.now text.now series → ⊥) (λ series. IsHeaderLine timed.now text.now series) }
+    ensures { MatchOption result ((series : Series) → IsHeaderLine timed.now text.now series → ⊥)
+        (λ series. IsHeaderLine timed.now text.now series) }
 {
     if text == header(Series::Tasking).as_bytes() {
         Some(Series::Tasking)
@@ -54,7 +55,8 @@ fn series_in(timed: &Timed, text: &[u8]) -> Option<Series>
 
 /// The number behind a word.
 fn number_in(word: &[u8], text: &[u8]) -> Option<u128>
-    ensures { MatchOption result ((number : ℕ) → IsNumberLine word.now text.now number → ⊥) (λ number. IsNumberLine word.now text.now number) }
+    ensures { MatchOption result ((number : ℕ) → IsNumberLine word.now text.now number → ⊥)
+        (λ number. IsNumberLine word.now text.now number) }
 {
     numbers_are_read_as_printed();
     let Some(rest) = behind(word, text) else {
@@ -71,7 +73,8 @@ pub(crate) fn pair_round(
     text: &[u8],
 ) -> Option<(u128, u128)>
     requires { (by < 48) ⊎ (57 < by) }
-    ensures { MatchOption result ((first second : ℕ) → ArePair by most_first most_second text.now first second → ⊥) (λ pair. ArePair by most_first most_second text.now pair.0 pair.1) }
+    ensures { MatchOption result ((first second : ℕ) → ArePair by most_first most_second text.now first second → ⊥)
+        (λ pair. ArePair by most_first most_second text.now pair.0 pair.1) }
 {
     numbers_are_read_as_printed();
     let Some((left, right)) = parted(by, text) else {
@@ -88,7 +91,8 @@ pub(crate) fn pair_round(
 
 /// The parts of the rate of a line, which is in lowest terms.
 fn rate_in(text: &[u8]) -> Option<(u128, u128)>
-    ensures { MatchOption result ((rate : Fraction) → IsRateLine text.now rate → ⊥) (λ rate. IsRateLine text.now (record { num = rate.0; den = rate.1 })) }
+    ensures { MatchOption result ((rate : Fraction) → IsRateLine text.now rate → ⊥)
+        (λ rate. IsRateLine text.now (record { num = rate.0; den = rate.1 })) }
 {
     let Some(rest) = behind(b"rate ", text) else {
         return None;
@@ -107,7 +111,8 @@ fn rate_in(text: &[u8]) -> Option<(u128, u128)>
 
 /// The series of the next line, and what is left.
 fn header_after<'a>(timed: &Timed, bytes: &'a [u8]) -> Option<(Series, &'a [u8])>
-    ensures { MatchOption result (HasNoNext (IsHeaderLine timed.now) bytes.now) (λ found. IsNext (IsHeaderLine timed.now) bytes.now found.0 found.1.now) }
+    ensures { MatchOption result (HasNoNext (IsHeaderLine timed.now) bytes.now)
+        (λ found. IsNext (IsHeaderLine timed.now) bytes.now found.0 found.1.now) }
 {
     let (text, rest) = first_line(bytes)?;
     Some((series_in(timed, text)?, rest))
@@ -115,7 +120,8 @@ fn header_after<'a>(timed: &Timed, bytes: &'a [u8]) -> Option<(Series, &'a [u8])
 
 /// The number of the next line, which is to have a word, and what is left.
 fn number_after<'a>(word: &[u8], bytes: &'a [u8]) -> Option<(u128, &'a [u8])>
-    ensures { MatchOption result (HasNoNext (IsNumberLine word.now) bytes.now) (λ found. IsNext (IsNumberLine word.now) bytes.now found.0 found.1.now) }
+    ensures { MatchOption result (HasNoNext (IsNumberLine word.now) bytes.now)
+        (λ found. IsNext (IsNumberLine word.now) bytes.now found.0 found.1.now) }
 {
     let (text, rest) = first_line(bytes)?;
     Some((number_in(word, text)?, rest))
@@ -123,7 +129,8 @@ fn number_after<'a>(word: &[u8], bytes: &'a [u8]) -> Option<(u128, &'a [u8])>
 
 /// What is left behind the line of the unit.
 fn unit_after<'a>(timed: &Timed, bytes: &'a [u8]) -> Option<&'a [u8]>
-    ensures { MatchOption result (HasNoNext (IsUnitLine timed.now) bytes.now) (λ rest. IsNext (IsUnitLine timed.now) bytes.now timed.now.unit rest.now) }
+    ensures { MatchOption result (HasNoNext (IsUnitLine timed.now) bytes.now)
+        (λ rest. IsNext (IsUnitLine timed.now) bytes.now timed.now.unit rest.now) }
 {
     timed.known();
     let Some((unit, rest)) = number_after(b"unit ", bytes) else {
@@ -138,7 +145,8 @@ fn unit_after<'a>(timed: &Timed, bytes: &'a [u8]) -> Option<&'a [u8]>
 
 /// The parts of the rate of the next line, and what is left.
 fn rate_after(bytes: &[u8]) -> Option<(u128, u128, &[u8])>
-    ensures { MatchOption result (HasNoNext IsRateLine bytes.now) (λ found. IsNext IsRateLine bytes.now (record { num = found.0; den = found.1 }) found.2.now) }
+    ensures { MatchOption result (HasNoNext IsRateLine bytes.now)
+        (λ found. IsNext IsRateLine bytes.now (record { num = found.0; den = found.1 }) found.2.now) }
 {
     let Some((text, rest)) = first_line(bytes) else {
         return None;

@@ -11,6 +11,9 @@ ghost use Rattle.plan_text.specs.Reading.{HasLanes32, IsFaultAt};
 /// Reading stops nowhere in the text of a table that fits and whose lanes have numbers of 32 bits, and such a text is that of one series
 /// and one table alone. The texts are those that a memory of 64 bits holds.
 pub fn readable_texts_are_read()
-    ensures read { (t : TimedView) (series : Series) (table : Table) (number : ℕ) → IsTimed t → Fits t series table → All HasLanes32 table.slots → length (plan_text t series table) < 2 ^ 64 → IsFaultAt t (plan_text t series table) number → ⊥ }
-    ensures determined { (t : TimedView) (series other : Series) (table second : Table) → IsTimed t → Fits t series table → Fits t other second → All HasLanes32 table.slots → All HasLanes32 second.slots → length (plan_text t series table) < 2 ^ 64 → plan_text t series table ≡ plan_text t other second → (series ≡ other) × (table ≡ second) }
+    ensures read { (t : TimedView) (series : Series) (table : Table) (number : ℕ) → IsTimed t → Fits t series table → All HasLanes32 table.slots
+        → length (plan_text t series table) < 2 ^ 64 → IsFaultAt t (plan_text t series table) number → ⊥ }
+    ensures determined { (t : TimedView) (series other : Series) (table second : Table) → IsTimed t → Fits t series table → Fits t other second
+        → All HasLanes32 table.slots → All HasLanes32 second.slots → length (plan_text t series table) < 2 ^ 64
+        → plan_text t series table ≡ plan_text t other second → (series ≡ other) × (table ≡ second) }
 {}

@@ -28,7 +28,8 @@ const MOST_SLOTS: usize = u32::MAX as usize;
 
 /// The number of the target that is a node.
 fn target_at(timed: &Timed, end: u32) -> Option<u32>
-    ensures { MatchOption result ((kind : ℕ) → kind < length timed.now.platform.targets → end ≡ slice_index timed.now.platform.targets kind → ⊥) (λ kind. (kind < length timed.now.platform.targets) × (end ≡ slice_index timed.now.platform.targets kind)) }
+    ensures { MatchOption result ((kind : ℕ) → kind < length timed.now.platform.targets → end ≡ slice_index timed.now.platform.targets kind → ⊥)
+        (λ kind. (kind < length timed.now.platform.targets) × (end ≡ slice_index timed.now.platform.targets kind)) }
 {
     timed.known();
     let targets = timed.platform().targets();
@@ -52,7 +53,8 @@ fn kind_of(timed: &Timed, series: Series, end: u32) -> Option<u32>
 
 /// The first of some words, and the others.
 fn next_word<'a>(words: &'a [&'a [u8]]) -> Option<(&'a [u8], &'a [&'a [u8]])>
-    ensures { MatchOption result (map (λ word. word.now) words.now ≡ []) (λ found. map (λ word. word.now) words.now ≡ found.0.now ∷ map (λ word. word.now) found.1.now) }
+    ensures { MatchOption result (map (λ word. word.now) words.now ≡ [])
+        (λ found. map (λ word. word.now) words.now ≡ found.0.now ∷ map (λ word. word.now) found.1.now) }
 {
     let Some((first, others)) = words.split_first() else {
         return None;
@@ -62,7 +64,8 @@ fn next_word<'a>(words: &'a [&'a [u8]]) -> Option<(&'a [u8], &'a [&'a [u8]])>
 
 /// The number of a line's second word, where this is the first, and the other words.
 fn numbered<'a>(word: &[u8], words: &'a [&'a [u8]]) -> Option<(u128, &'a [&'a [u8]])>
-    ensures { MatchOption result ((number : ℕ) (others : List (List ℕ)) → IsNumbered word.now (map (λ word. word.now) words.now) number others → ⊥) (λ found. IsNumbered word.now (map (λ word. word.now) words.now) found.0 (map (λ word. word.now) found.1.now)) }
+    ensures { MatchOption result ((number : ℕ) (others : List (List ℕ)) → IsNumbered word.now (map (λ word. word.now) words.now) number others → ⊥)
+        (λ found. IsNumbered word.now (map (λ word. word.now) words.now) found.0 (map (λ word. word.now) found.1.now)) }
 {
     numbers_are_read_as_printed();
     let Some((first, others)) = next_word(words) else {
@@ -86,7 +89,8 @@ fn route_head<'a>(
     number: u64,
     words: &'a [&'a [u8]],
 ) -> Option<(u128, u32, &'a [&'a [u8]])>
-    ensures { MatchOption result ((count start : ℕ) (others : List (List ℕ)) → IsRouteHead timed.now number (map (λ word. word.now) words.now) count start others → ⊥) (λ head. IsRouteHead timed.now number (map (λ word. word.now) words.now) head.0 head.1 (map (λ word. word.now) head.2.now)) }
+    ensures { MatchOption result ((count start : ℕ) (others : List (List ℕ)) → IsRouteHead timed.now number (map (λ word. word.now) words.now) count start others → ⊥)
+        (λ head. IsRouteHead timed.now number (map (λ word. word.now) words.now) head.0 head.1 (map (λ word. word.now) head.2.now)) }
 {
     numbers_are_read_as_printed();
     let Some((found, others)) = numbered(b"route", words) else {
@@ -118,7 +122,8 @@ fn route_of_words(
     number: u64,
     words: &[&[u8]],
 ) -> Result<Option<Route>, NoMemory>
-    ensures { (text : List ℕ) → map (λ word. word.now) words.now ≡ words_of text → IfOk result (λ found. MatchOption found ((route : Route) → IsRouteLine timed.now series number text route → ⊥) (λ route. IsRouteLine timed.now series number text route)) }
+    ensures { (text : List ℕ) → map (λ word. word.now) words.now ≡ words_of text
+        → IfOk result (λ found. MatchOption found ((route : Route) → IsRouteLine timed.now series number text route → ⊥) (λ route. IsRouteLine timed.now series number text route)) }
 {
     timed.known();
     let Some((count, start, names)) = route_head(timed, number, words) else {
@@ -151,7 +156,9 @@ fn route_in(
     number: u64,
     text: &[u8],
 ) -> Result<Option<Route>, NoMemory>
-    ensures { IfOk result (λ found. MatchOption found ((route : Route) → IsRouteLine timed.now series number text.now route → ⊥) (λ route. IsRouteLine timed.now series number text.now route)) }
+    ensures { IfOk result
+        (λ found. MatchOption found ((route : Route) → IsRouteLine timed.now series number text.now route → ⊥)
+            (λ route. IsRouteLine timed.now series number text.now route)) }
 {
     let words = words_of(alloc, text)?;
     route_of_words(alloc, timed, series, number, words.as_slice())
@@ -172,7 +179,9 @@ fn piece_in(word: &[u8]) -> Option<Piece>
 
 /// The pieces of some words.
 fn pieces_in(alloc: Global, words: &[&[u8]]) -> Result<Option<Listed<Piece>>, NoMemory>
-    ensures { IfOk result (λ found. MatchOption found ((pieces : List Piece) → ArePieceWords (map (λ word. word.now) words.now) pieces → ⊥) (λ pieces. ArePieceWords (map (λ word. word.now) words.now) pieces)) }
+    ensures { IfOk result
+        (λ found. MatchOption found ((pieces : List Piece) → ArePieceWords (map (λ word. word.now) words.now) pieces → ⊥)
+            (λ pieces. ArePieceWords (map (λ word. word.now) words.now) pieces)) }
 {
     let mut pieces = Listed::new(alloc);
     for word in words {
@@ -192,7 +201,8 @@ fn slot_of_words(
     words: &[&[u8]],
 ) -> Result<Option<Slot>, NoMemory>
     requires { lanes ≡ length (lanes_of routes.now) }
-    ensures { (text : List ℕ) → map (λ word. word.now) words.now ≡ words_of text → IfOk result (λ found. MatchOption found ((slot : Slot) → IsSlotLine (lanes_of routes.now) text slot → ⊥) (λ slot. IsSlotLine (lanes_of routes.now) text slot)) }
+    ensures { (text : List ℕ) → map (λ word. word.now) words.now ≡ words_of text
+        → IfOk result (λ found. MatchOption found ((slot : Slot) → IsSlotLine (lanes_of routes.now) text slot → ⊥) (λ slot. IsSlotLine (lanes_of routes.now) text slot)) }
 {
     let Some((duration, others)) = numbered(b"slot", words) else {
         return Ok(None);
@@ -219,7 +229,9 @@ fn slot_in(
     text: &[u8],
 ) -> Result<Option<Slot>, NoMemory>
     requires { lanes ≡ length (lanes_of routes.now) }
-    ensures { IfOk result (λ found. MatchOption found ((slot : Slot) → IsSlotLine (lanes_of routes.now) text.now slot → ⊥) (λ slot. IsSlotLine (lanes_of routes.now) text.now slot)) }
+    ensures { IfOk result
+        (λ found. MatchOption found ((slot : Slot) → IsSlotLine (lanes_of routes.now) text.now slot → ⊥)
+            (λ slot. IsSlotLine (lanes_of routes.now) text.now slot)) }
 {
     let words = words_of(alloc, text)?;
     slot_of_words(alloc, lanes, routes, words.as_slice())
@@ -233,7 +245,9 @@ fn route_after<'a>(
     number: u64,
     bytes: &'a [u8],
 ) -> Result<Option<(Route, &'a [u8])>, NoMemory>
-    ensures { IfOk result (λ found. MatchOption found (HasNoNext (IsRouteLine timed.now series number) bytes.now) (λ next. IsNext (IsRouteLine timed.now series number) bytes.now next.0 next.1.now)) }
+    ensures { IfOk result
+        (λ found. MatchOption found (HasNoNext (IsRouteLine timed.now series number) bytes.now)
+            (λ next. IsNext (IsRouteLine timed.now series number) bytes.now next.0 next.1.now)) }
 {
     let Some((text, rest)) = first_line(bytes) else {
         return Ok(None);
@@ -252,7 +266,9 @@ fn slot_after<'a>(
     bytes: &'a [u8],
 ) -> Result<Option<(Slot, &'a [u8])>, NoMemory>
     requires { lanes ≡ length (lanes_of routes.now) }
-    ensures { IfOk result (λ found. MatchOption found (HasNoNext (IsSlotLine (lanes_of routes.now)) bytes.now) (λ next. IsNext (IsSlotLine (lanes_of routes.now)) bytes.now next.0 next.1.now)) }
+    ensures { IfOk result
+        (λ found. MatchOption found (HasNoNext (IsSlotLine (lanes_of routes.now)) bytes.now)
+            (λ next. IsNext (IsSlotLine (lanes_of routes.now)) bytes.now next.0 next.1.now)) }
 {
     let Some((text, rest)) = first_line(bytes) else {
         return Ok(None);
@@ -270,7 +286,8 @@ pub(crate) fn read_routes<'a>(
     head: &Head,
     bytes: &'a [u8],
 ) -> Result<(Listed<Route>, &'a [u8]), NoMemory>
-    ensures read { IfOk result (λ found. AreRead (length found.0) timed.now (at_row head.now [] []) bytes.now (at_row head.now found.0 []) found.1.now) }
+    ensures read { IfOk result
+        (λ found. AreRead (length found.0) timed.now (at_row head.now [] []) bytes.now (at_row head.now found.0 []) found.1.now) }
     ensures all { IfOk result (λ found. HasNoNext (IsRouteLine timed.now head.now.series (length found.0)) found.1.now) }
 {
     let mut routes = Listed::new(alloc);
@@ -296,7 +313,9 @@ pub(crate) fn read_slots<'a>(
     routes: &[Route],
     bytes: &'a [u8],
 ) -> Result<(Listed<Slot>, &'a [u8]), NoMemory>
-    ensures read { IfOk result (λ found. AreRead (length found.0) timed.now (at_row head.now routes.now []) bytes.now (at_row head.now routes.now found.0) found.1.now) }
+    ensures read { IfOk result
+        (λ found. AreRead (length found.0) timed.now (at_row head.now routes.now []) bytes.now
+            (at_row head.now routes.now found.0) found.1.now) }
     ensures few { IfOk result (λ found. length found.0 < 2 ^ 32) }
     ensures all { IfOk result (λ found. suc (length found.0) < 2 ^ 32 → HasNoNext (IsSlotLine (lanes_of routes.now)) found.1.now) }
 {

@@ -12,7 +12,7 @@ use Rattle.planner.specs.declared.numbers.Scale.{Scale}
 use Rattle.planner.specs.declared.numbers.TableFault.{TableFault}
 use Rattle.planner.specs.declared.numbers.TableFault.TheVariants.{Period}
 
--- the least common multiple of what stands so far and of the numbers that follow, in their order; the first number that makes it pass 2^100 ends it
+-- the least common multiple of what stands so far and of the numbers that follow, in their order; the first number that makes it exceed 2^100 ends it
 abbrev pub multiple_of : PeriodStep → ℕ → List ℕ → Result ℕ TableFault
 multiple_of step left [] = Ok left
 multiple_of step left (right ∷ rest) = cond (nat_le (lcm_of left right) (2 ^ 100)) (multiple_of step (lcm_of left right) rest) (Err (Period step left right))

@@ -51,7 +51,7 @@ abbrev pub fault_of_scale : Result Scale TableFault → Option PlanFault
 fault_of_scale (Ok scale) = None
 fault_of_scale (Err fault) = Some (period_fault fault)
 
--- the fault of a solution: there is none, or its period passes the bound
+-- the fault of a solution: there is none, or its period exceeds the bound
 abbrev pub fault_of_answer : TimedView → Result Optimum SolveFault → Option PlanFault
 fault_of_answer t (Ok optimum) = fault_of_scale (scale_of t (columns_of t) optimum.values)
 fault_of_answer t (Err fault) = Some (plan_fault fault)

@@ -8,7 +8,7 @@ use std::fmt;
 /// Why a platform isn't planned. `Display` writes the line that names the fault, without a line feed.
 #[derive(Clone, Copy, Debug, PartialEq, Eq)]
 pub enum PlanFault {
-    /// After so many pivots the next one passes 2^127 - 1 in size, first at this cell of the table.
+    /// After so many pivots the next one exceeds 2^127 - 1 in size, first at this cell of the table.
     Pivot {
         pivots: u64,
         row: u32,
@@ -18,7 +18,7 @@ pub enum PlanFault {
     Spent {
         limit: u64,
     },
-    /// The period of the best solution passes 2^100 ticks: at this step the multiple so far and the next number, or the two factors.
+    /// The period of the best solution exceeds 2^100 ticks: at this step the multiple so far and the next number, or the two factors.
     Period {
         step: PeriodStep,
         left: u128,

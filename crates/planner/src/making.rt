@@ -94,12 +94,16 @@ fn table_over(
     requires exist { All (Exists timed.now) columns.now }
     requires point { IsPoint timed.now values.now }
     ensures made { IfOk result (IsTableOf timed.now values.now) }
-    ensures fault { IfErr result (λ fault. (fault ≡ TableFault.NoMemory) ⊎ (scale_of timed.now (columns_of timed.now) values.now ≡ Err fault)) }
+    ensures fault { IfErr result
+        (λ fault. (fault ≡ TableFault.NoMemory) ⊎ (scale_of timed.now (columns_of timed.now) values.now ≡ Err fault)) }
     ensures fits { IfOk result (Fits timed.now Tasking) }
     ensures ports { IfOk result (KeepsPorts timed.now Tasking) }
-    ensures rate { IfOk result (λ table. (p : IsPoint timed.now values.now) → pos table.tasks *ℤ pos p.den ≡ gain_value (tasking_programme timed.now) p.point *ℤ pos table.period) }
+    ensures rate { IfOk result
+        (λ table. (p : IsPoint timed.now values.now)
+            → pos table.tasks *ℤ pos p.den ≡ gain_value (tasking_programme timed.now) p.point *ℤ pos table.period) }
     ensures valid { IfOk result (λ table. (n : ℕ) → IsValid timed.now Tasking (table_schedule timed.now Tasking table n)) }
-    ensures completes { IfOk result (λ table. (n : ℕ) → (n - table.depth) * table.tasks ≤ completed timed.now Tasking (table_schedule timed.now Tasking table n)) }
+    ensures completes { IfOk result
+        (λ table. (n : ℕ) → (n - table.depth) * table.tasks ≤ completed timed.now Tasking (table_schedule timed.now Tasking table n)) }
 {
     timed.known();
     columns_are_looked_up();
@@ -121,7 +125,7 @@ fn table_over(
 ///
 /// # Errors
 ///
-/// `Period` where the period before the division passes 2^100 ticks, `NoMemory` where memory runs out.
+/// `Period` where the period before the division exceeds 2^100 ticks, `NoMemory` where memory runs out.
 pub fn table_of(
     alloc: Global,
     timed: &Timed,
@@ -131,12 +135,16 @@ pub fn table_of(
     requires tasking { series ≡ Tasking }
     requires point { IsPoint timed.now values.now }
     ensures made { IfOk result (IsTableOf timed.now values.now) }
-    ensures fault { IfErr result (λ fault. (fault ≡ TableFault.NoMemory) ⊎ (scale_of timed.now (columns_of timed.now) values.now ≡ Err fault)) }
+    ensures fault { IfErr result
+        (λ fault. (fault ≡ TableFault.NoMemory) ⊎ (scale_of timed.now (columns_of timed.now) values.now ≡ Err fault)) }
     ensures fits { IfOk result (Fits timed.now series) }
     ensures ports { IfOk result (KeepsPorts timed.now series) }
-    ensures rate { IfOk result (λ table. (p : IsPoint timed.now values.now) → pos table.tasks *ℤ pos p.den ≡ gain_value (tasking_programme timed.now) p.point *ℤ pos table.period) }
+    ensures rate { IfOk result
+        (λ table. (p : IsPoint timed.now values.now)
+            → pos table.tasks *ℤ pos p.den ≡ gain_value (tasking_programme timed.now) p.point *ℤ pos table.period) }
     ensures valid { IfOk result (λ table. (n : ℕ) → IsValid timed.now series (table_schedule timed.now series table n)) }
-    ensures completes { IfOk result (λ table. (n : ℕ) → (n - table.depth) * table.tasks ≤ completed timed.now series (table_schedule timed.now series table n)) }
+    ensures completes { IfOk result
+        (λ table. (n : ℕ) → (n - table.depth) * table.tasks ≤ completed timed.now series (table_schedule timed.now series table n)) }
 {
     let _ = series;
     let columns = columns_of(alloc, timed)?;

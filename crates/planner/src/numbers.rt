@@ -51,7 +51,7 @@ pub(crate) struct Scale {
 /// Why a solution has no table.
 #[derive(Clone, Copy, Debug, PartialEq, Eq)]
 pub enum TableFault {
-    /// Its period passes 2^100 ticks: at this step the multiple so far and the next number, or the two factors.
+    /// Its period exceeds 2^100 ticks: at this step the multiple so far and the next number, or the two factors.
     Period {
         step: PeriodStep,
         left: u128,

@@ -25,8 +25,8 @@ use tasking_program::{prices_bound_rates, programmes_are_bounded, tasking_lp};
 ///
 /// # Errors
 ///
-/// `Pivot` where a pivot passes 2^127 - 1 in size, `Spent` where the best rate isn't reached after `limit` pivots, `Period` where the
-/// period passes 2^100 ticks, `NoMemory` where memory runs out.
+/// `Pivot` where a pivot exceeds 2^127 - 1 in size, `Spent` where the best rate isn't reached after `limit` pivots, `Period` where the
+/// period exceeds 2^100 ticks, `NoMemory` where memory runs out.
 pub fn plan(alloc: Global, timed: &Timed, series: Series, limit: u64) -> Result<Plan, PlanFault>
     requires { series ≡ Tasking }
     ensures fault { IfErr result (λ fault. fault ≢ PlanFault.NoMemory → fault_of limit timed.now ≡ Some fault) }

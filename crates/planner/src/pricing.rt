@@ -37,7 +37,7 @@ pub(crate) fn solved(alloc: Global, lp: &Lp, limit: u64) -> Result<Optimum, Solv
 ///
 /// # Errors
 ///
-/// `Pivot` where a pivot passes 2^127 - 1 in size, `Spent` where the best rate isn't reached after `limit` pivots, `NoMemory` where
+/// `Pivot` where a pivot exceeds 2^127 - 1 in size, `Spent` where the best rate isn't reached after `limit` pivots, `NoMemory` where
 /// memory runs out.
 pub fn prices(
     alloc: Global,

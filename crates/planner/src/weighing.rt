@@ -20,7 +20,8 @@ fn add_route(loads: &mut [u128], route: &Route)
     requires links { All (λ link. link < 128) route.now.links }
     requires room { (link : ℕ) → link < 128 → get_or loads.old link 0 + count_by (nat_eq link) route.now.links * route.now.count < 2 ^ 128 }
     ensures size { length loads.new ≡ 128 }
-    ensures loads { (link : ℕ) → link < 128 → get_or loads.new link 0 ≡ get_or loads.old link 0 + count_by (nat_eq link) route.now.links * route.now.count }
+    ensures loads { (link : ℕ) → link < 128
+        → get_or loads.new link 0 ≡ get_or loads.old link 0 + count_by (nat_eq link) route.now.links * route.now.count }
 {
     for link in route.links.as_slice() {
         loads[*link as usize] += route.count;

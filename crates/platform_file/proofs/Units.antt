@@ -65,7 +65,7 @@ module _ (multiples : (a b : ℕ) → 1 ≤ a → 1 ≤ b → IsLeastCommonMulti
         | false ↦ λ e h. cc
       ] refl h
 
-  -- where the fold ends early, every common multiple passes the bound
+  -- where the fold ends early, every common multiple exceeds the bound
   passed : (left : ℕ) (denominators : List ℕ) (l r n : ℕ) → 1 ≤ left → All (λ den. 1 ≤ den) denominators → unit_from left denominators ≡ Err (Unit l r) →
       1 ≤ n → n % left ≡ 0 → IsCommonMultiple denominators n → 2 ^ 40 < n
   passed left [] l r n some_left all h some of_left common = cc

@@ -193,7 +193,7 @@ platform_of bytes =
     cond (nat_lt most_bytes (length bytes)) (Err (Limit kind.Text (length bytes)))
     (and_then (ok_or (document_of bytes) NotToml) platform_of_document)
 
--- the fault is the one with which reading ends; want of memory may come at any time
+-- the fault is the one with which reading ends; memory may run out at any time
 abbrev pub IsFaultOf : {A : Type 0} → PlatformFault → Result A PlatformFault → Type 0
 IsFaultOf NoMemory read = Unit {0}
 IsFaultOf fault read = read ≡ Err fault

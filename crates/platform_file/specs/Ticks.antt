@@ -45,12 +45,12 @@ pub record IsTimed (t : TimedView) : Type 0 where
   pub some_time : All (λ time. IfSome time (λ ticks. 1 ≤ ticks)) t.times
   pub some_cost : All (λ ticks. 1 ≤ ticks) t.costs
 
--- the least common multiple of what stands so far and of the denominators that follow, in their order; the first denominator that makes it pass 2^40 ends it
+-- the least common multiple of what stands so far and of the denominators that follow, in their order; the first denominator that makes it exceed 2^40 ends it
 abbrev pub unit_from : ℕ → List ℕ → Result ℕ TimedFault
 unit_from left [] = Ok left
 unit_from left (right ∷ rest) = cond (nat_le (lcm_of left right) (2 ^ 40)) (unit_from (lcm_of left right) rest) (Err (Unit left right))
 
--- a platform in ticks, or where the ticks of its time unit pass the bound
+-- a platform in ticks, or where the ticks of its time unit exceed the bound
 abbrev pub timed_of : PlatformView → Result TimedView TimedFault
 timed_of p = in_ticks (unit_from 1 (denominators_of p))
   where
@@ -58,7 +58,7 @@ timed_of p = in_ticks (unit_from 1 (denominators_of p))
     in_ticks (Ok unit) = Ok (record { platform = p; unit = unit; times = times_of unit p; costs = costs_of unit p })
     in_ticks (Err fault) = Err fault
 
--- the fault is the one with which this ends; want of memory may come at any time
+-- the fault is the one with which this ends; memory may run out at any time
 abbrev pub IsTimedFault : {A : Type 0} → TimedFault → Result A TimedFault → Type 0
 IsTimedFault NoMemory read = ⊤
 IsTimedFault fault read = read ≡ Err fault

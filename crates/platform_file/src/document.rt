@@ -39,7 +39,8 @@ pub(crate) fn text_at<'a>(table: &'a Table, key: &str) -> Option<&'a str>
 
 /// The strings of some values, where each of them is one.
 fn all_texts<'a>(alloc: Global, values: &'a [Value]) -> Result<Option<Vec<&'a str>>, AllocError>
-    ensures { IfOk result (λ found. option_map (λ texts. map (λ text. text.now) texts.items) found ≡ all_of as_str (items_view values.now)) }
+    ensures { IfOk result
+        (λ found. option_map (λ texts. map (λ text. text.now) texts.items) found ≡ all_of as_str (items_view values.now)) }
 {
     let mut texts = Vec::new(alloc);
     for value in values {
@@ -53,7 +54,8 @@ fn all_texts<'a>(alloc: Global, values: &'a [Value]) -> Result<Option<Vec<&'a st
 
 /// The tables of some values, where each of them is one.
 fn all_tables<'a>(alloc: Global, values: &'a [Value]) -> Result<Option<Vec<&'a Table>>, AllocError>
-    ensures { IfOk result (λ found. option_map (λ tables. map (λ table. table_view table.now) tables.items) found ≡ all_of as_table (items_view values.now)) }
+    ensures { IfOk result
+        (λ found. option_map (λ tables. map (λ table. table_view table.now) tables.items) found ≡ all_of as_table (items_view values.now)) }
 {
     let mut tables = Vec::new(alloc);
     for value in values {
@@ -71,7 +73,9 @@ pub(crate) fn tables_at<'a>(
     table: &'a Table,
     key: &str,
 ) -> Result<Option<Vec<&'a Table>>, AllocError>
-    ensures { IfOk result (λ found. option_map (λ tables. map (λ table. table_view table.now) tables.items) found ≡ option_and_then (items_of as_table) (get_member key.now (table_view table.now))) }
+    ensures { IfOk result
+        (λ found. option_map (λ tables. map (λ table. table_view table.now) tables.items) found
+            ≡ option_and_then (items_of as_table) (get_member key.now (table_view table.now))) }
 {
     match value_at(table, key).and_then(Value::as_array) {
         Some(values) => all_tables(alloc, values),
@@ -85,7 +89,9 @@ pub(crate) fn optional_tables<'a>(
     table: &'a Table,
     key: &str,
 ) -> Result<Option<Vec<&'a Table>>, AllocError>
-    ensures { IfOk result (λ found. option_map (λ tables. map (λ table. table_view table.now) tables.items) found ≡ optional_items as_table (get_member key.now (table_view table.now))) }
+    ensures { IfOk result
+        (λ found. option_map (λ tables. map (λ table. table_view table.now) tables.items) found
+            ≡ optional_items as_table (get_member key.now (table_view table.now))) }
 {
     match value_at(table, key) {
         None => Ok(Some(Vec::new(alloc))),
@@ -102,7 +108,9 @@ pub(crate) fn optional_texts<'a>(
     table: &'a Table,
     key: &str,
 ) -> Result<Option<Vec<&'a str>>, AllocError>
-    ensures { IfOk result (λ found. option_map (λ texts. map (λ text. text.now) texts.items) found ≡ optional_items as_str (get_member key.now (table_view table.now))) }
+    ensures { IfOk result
+        (λ found. option_map (λ texts. map (λ text. text.now) texts.items) found
+            ≡ optional_items as_str (get_member key.now (table_view table.now))) }
 {
     match value_at(table, key) {
         None => Ok(Some(Vec::new(alloc))),

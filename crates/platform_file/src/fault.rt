@@ -290,7 +290,7 @@ impl From<NoMemory> for PlatformFault {
 /// Why a platform has no ticks. `Display` writes the line that names the fault, without a line feed.
 #[derive(Clone, Copy, Debug, PartialEq, Eq)]
 pub enum TimedFault {
-    /// The least common multiple of the denominators passes 2^40: that of those before is `left`, and `right` is the first
+    /// The least common multiple of the denominators exceeds 2^40: that of those before is `left`, and `right` is the first
     /// denominator that makes it pass.
     Unit { left: u128, right: u128 },
     /// Memory ran out.

@@ -67,7 +67,9 @@ fn read_span(section: Section, field: Field, value: &Value) -> Result<Ratio, Pla
 
 /// A node's name.
 fn read_name(alloc: Global, number: u32, table: &Table) -> Result<Name, PlatformFault>
-    ensures { MatchResult result (λ name. name_in number (table_view table.now) ≡ Ok name) (λ fault. IsFaultOf fault (name_in number (table_view table.now))) }
+    ensures { MatchResult result
+        (λ name. name_in number (table_view table.now) ≡ Ok name)
+        (λ fault. IsFaultOf fault (name_in number (table_view table.now))) }
 {
     let Some(text) = text_at(table, "name") else {
         return Err(PlatformFault::bad_field(Section::Node(number), Field::Name));
@@ -109,7 +111,9 @@ fn node_named(nodes: &[Node], name: &str) -> Option<u32>
 #[tactic(auto, using(crate::proofs::Growing::unnamed))]
 fn read_node(alloc: Global, earlier: &[Node], table: &Table) -> Result<Node, PlatformFault>
     requires { length earlier.now < 32 }
-    ensures value { MatchResult result (λ node. node_in earlier.now (table_view table.now) ≡ Ok node) (λ fault. IsFaultOf fault (node_in earlier.now (table_view table.now))) }
+    ensures value { MatchResult result
+        (λ node. node_in earlier.now (table_view table.now) ≡ Ok node)
+        (λ fault. IsFaultOf fault (node_in earlier.now (table_view table.now))) }
     ensures node { IfOk result IsNode }
     ensures fresh { IfOk result (λ node. list_any (λ other. same_name other node) earlier.now ≡ false) }
 {
@@ -129,7 +133,9 @@ fn read_node(alloc: Global, earlier: &[Node], table: &Table) -> Result<Node, Pla
 #[tactic(auto, using(crate::proofs::Growing::none_differ))]
 fn read_nodes(alloc: Global, tables: &[&Table]) -> Result<Listed<Node>, PlatformFault>
     requires { length tables.now ≤ 32 }
-    ensures value { MatchResult result (λ nodes. each_of node_in [] (map (λ table. table_view table.now) tables.now) ≡ Ok nodes) (λ fault. IsFaultOf fault (each_of node_in [] (map (λ table. table_view table.now) tables.now))) }
+    ensures value { MatchResult result
+        (λ nodes. each_of node_in [] (map (λ table. table_view table.now) tables.now) ≡ Ok nodes)
+        (λ fault. IsFaultOf fault (each_of node_in [] (map (λ table. table_view table.now) tables.now))) }
     ensures nodes { IfOk result (All IsNode) }
     ensures differ { IfOk result (IsDistinct same_name) }
     ensures count { IfOk result (λ nodes. length nodes ≡ length tables.now) }
@@ -197,7 +203,9 @@ fn read_targets(
 ) -> Result<Listed<u32>, PlatformFault>
     requires nodes { length nodes.now ≤ 32 }
     requires names { length names.now ≤ 8 }
-    ensures value { MatchResult result (λ targets. each_of (target_in nodes.now master) [] (map (λ name. name.now) names.now) ≡ Ok targets) (λ fault. IsFaultOf fault (each_of (target_in nodes.now master) [] (map (λ name. name.now) names.now))) }
+    ensures value { MatchResult result
+        (λ targets. each_of (target_in nodes.now master) [] (map (λ name. name.now) names.now) ≡ Ok targets)
+        (λ fault. IsFaultOf fault (each_of (target_in nodes.now master) [] (map (λ name. name.now) names.now))) }
     ensures targets { IfOk result (All (IsTarget nodes.now master)) }
     ensures differ { IfOk result (IsDistinct nat_eq) }
     ensures count { IfOk result (λ targets. length targets ≡ length names.now) }
@@ -279,7 +287,9 @@ fn read_links(
 ) -> Result<Listed<Link>, PlatformFault>
     requires nodes { length nodes.now ≤ 32 }
     requires tables { length tables.now ≤ 128 }
-    ensures value { MatchResult result (λ links. each_of (link_in nodes.now) [] (map (λ table. table_view table.now) tables.now) ≡ Ok links) (λ fault. IsFaultOf fault (each_of (link_in nodes.now) [] (map (λ table. table_view table.now) tables.now))) }
+    ensures value { MatchResult result
+        (λ links. each_of (link_in nodes.now) [] (map (λ table. table_view table.now) tables.now) ≡ Ok links)
+        (λ fault. IsFaultOf fault (each_of (link_in nodes.now) [] (map (λ table. table_view table.now) tables.now))) }
     ensures links { IfOk result (All (IsLink nodes.now)) }
     ensures differ { IfOk result (IsDistinct same_ends) }
     ensures count { IfOk result (λ links. length links ≡ length tables.now) }
@@ -301,7 +311,10 @@ fn read_over(
     requires nodes { length nodes.now ≤ 32 }
     requires links { length sections.now.links.items ≤ 128 }
     requires targets { length sections.now.targets.items ≤ 8 }
-    ensures value { MatchResult result (λ rest. platform_over nodes.now (sections_view sections.now) ≡ Ok (record { nodes = nodes.now; links = rest.2; master = rest.0; targets = rest.1 })) (λ fault. IsFaultOf fault (platform_over nodes.now (sections_view sections.now))) }
+    ensures value { MatchResult result
+        (λ rest. platform_over nodes.now (sections_view sections.now)
+            ≡ Ok (record { nodes = nodes.now; links = rest.2; master = rest.0; targets = rest.1 }))
+        (λ fault. IsFaultOf fault (platform_over nodes.now (sections_view sections.now))) }
     ensures master { IfOk result (λ rest. rest.0 < length nodes.now) }
     ensures targets { IfOk result (λ rest. All (IsTarget nodes.now rest.0) rest.1) }
     ensures differ { IfOk result (λ rest. IsDistinct nat_eq rest.1) }
@@ -320,7 +333,9 @@ fn read_sections_platform(alloc: Global, sections: &Sections<'_>) -> Result<Plat
     requires nodes { length sections.now.nodes.items ≤ 32 }
     requires links { length sections.now.links.items ≤ 128 }
     requires targets { length sections.now.targets.items ≤ 8 }
-    ensures { MatchResult result (λ platform. platform_of_sections (sections_view sections.now) ≡ Ok platform) (λ fault. IsFaultOf fault (platform_of_sections (sections_view sections.now))) }
+    ensures { MatchResult result
+        (λ platform. platform_of_sections (sections_view sections.now) ≡ Ok platform)
+        (λ fault. IsFaultOf fault (platform_of_sections (sections_view sections.now))) }
 {
     let nodes = read_nodes(alloc, &sections.nodes)?;
     let (master, targets, links) = read_over(alloc, nodes.as_slice(), sections)?;
@@ -329,7 +344,9 @@ fn read_sections_platform(alloc: Global, sections: &Sections<'_>) -> Result<Plat
 
 /// The TOML document of some bytes.
 fn read_document(alloc: Global, bytes: &[u8]) -> Result<Table, PlatformFault>
-    ensures { MatchResult result (λ table. document_of bytes.now ≡ Some (table_view table)) (λ fault. IsFaultOf fault (ok_or (document_of bytes.now) NotToml)) }
+    ensures { MatchResult result
+        (λ table. document_of bytes.now ≡ Some (table_view table))
+        (λ fault. IsFaultOf fault (ok_or (document_of bytes.now) NotToml)) }
 {
     let Ok(text) = str::from_utf8(bytes) else {
         return Err(PlatformFault::NotToml);

@@ -32,7 +32,9 @@ pub(crate) struct Sections<'a> {
 
 /// The master's name, where the top table has no strange key and the version is the format's.
 fn master_name(document: &Table) -> Result<&str, PlatformFault>
-    ensures { MatchResult result (λ name. master_name_of (table_view document.now) ≡ Ok name.now) (λ fault. IsFaultOf fault (master_name_of (table_view document.now))) }
+    ensures { MatchResult result
+        (λ name. master_name_of (table_view document.now) ≡ Ok name.now)
+        (λ fault. IsFaultOf fault (master_name_of (table_view document.now))) }
 {
     if has_other_key(&["version", "master", "targets", "node", "link"], document) {
         return Err(PlatformFault::bad_field(Section::Top, Field::Extra));
@@ -48,7 +50,9 @@ fn master_name(document: &Table) -> Result<&str, PlatformFault>
 
 /// The targets' names.
 fn target_names(alloc: Global, document: &Table) -> Result<Vec<&str>, PlatformFault>
-    ensures { MatchResult result (λ names. target_names_of (table_view document.now) ≡ Ok (map (λ text. text.now) names.items)) (λ fault. IsFaultOf fault (target_names_of (table_view document.now))) }
+    ensures { MatchResult result
+        (λ names. target_names_of (table_view document.now) ≡ Ok (map (λ text. text.now) names.items))
+        (λ fault. IsFaultOf fault (target_names_of (table_view document.now))) }
 {
     match optional_texts(alloc, document, "targets")? {
         Some(targets) => Ok(targets),
@@ -58,7 +62,9 @@ fn target_names(alloc: Global, document: &Table) -> Result<Vec<&str>, PlatformFa
 
 /// The tables of nodes.
 fn node_tables(alloc: Global, document: &Table) -> Result<Vec<&Table>, PlatformFault>
-    ensures { MatchResult result (λ tables. node_tables_of (table_view document.now) ≡ Ok (map (λ table. table_view table.now) tables.items)) (λ fault. IsFaultOf fault (node_tables_of (table_view document.now))) }
+    ensures { MatchResult result
+        (λ tables. node_tables_of (table_view document.now) ≡ Ok (map (λ table. table_view table.now) tables.items))
+        (λ fault. IsFaultOf fault (node_tables_of (table_view document.now))) }
 {
     match tables_at(alloc, document, "node")? {
         Some(nodes) => Ok(nodes),
@@ -68,7 +74,9 @@ fn node_tables(alloc: Global, document: &Table) -> Result<Vec<&Table>, PlatformF
 
 /// The tables of links.
 fn link_tables(alloc: Global, document: &Table) -> Result<Vec<&Table>, PlatformFault>
-    ensures { MatchResult result (λ tables. link_tables_of (table_view document.now) ≡ Ok (map (λ table. table_view table.now) tables.items)) (λ fault. IsFaultOf fault (link_tables_of (table_view document.now))) }
+    ensures { MatchResult result
+        (λ tables. link_tables_of (table_view document.now) ≡ Ok (map (λ table. table_view table.now) tables.items))
+        (λ fault. IsFaultOf fault (link_tables_of (table_view document.now))) }
 {
     match optional_tables(alloc, document, "link")? {
         Some(links) => Ok(links),
@@ -78,7 +86,9 @@ fn link_tables(alloc: Global, document: &Table) -> Result<Vec<&Table>, PlatformF
 
 /// The top table's sections.
 pub(crate) fn read_sections(alloc: Global, document: &Table) -> Result<Sections<'_>, PlatformFault>
-    ensures { MatchResult result (λ s. sections_of (table_view document.now) ≡ Ok (sections_view s)) (λ fault. IsFaultOf fault (sections_of (table_view document.now))) }
+    ensures { MatchResult result
+        (λ s. sections_of (table_view document.now) ≡ Ok (sections_view s))
+        (λ fault. IsFaultOf fault (sections_of (table_view document.now))) }
 {
     let master = master_name(document)?;
     let targets = target_names(alloc, document)?;
@@ -94,7 +104,9 @@ pub(crate) fn read_sections(alloc: Global, document: &Table) -> Result<Sections<
 
 /// The sections, where they have no more nodes, links and targets than are allowed.
 pub(crate) fn within_limits(sections: Sections<'_>) -> Result<Sections<'_>, PlatformFault>
-    ensures value { MatchResult result (λ s. within_limits (sections_view sections.entry) ≡ Ok (sections_view s)) (λ fault. IsFaultOf fault (within_limits (sections_view sections.entry))) }
+    ensures value { MatchResult result
+        (λ s. within_limits (sections_view sections.entry) ≡ Ok (sections_view s))
+        (λ fault. IsFaultOf fault (within_limits (sections_view sections.entry))) }
     ensures small { IfOk result (λ s. (length s.nodes.items ≤ 32) × (length s.links.items ≤ 128) × (length s.targets.items ≤ 8)) }
 {
     if sections.nodes.len() > MOST_NODES {

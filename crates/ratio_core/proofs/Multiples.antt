@@ -98,7 +98,7 @@ module _ (a b g : ℕ) (first : 1 ≤ a) (second : 1 ≤ b) (h : IsGcd a b g) wh
       of_first : a * (b / g) ≡ a / g * b
       of_first = exchanged (a / g) (b / g) g a b (div-mul_cancel g h.0) (div-mul_cancel g h.1)
 
--- where a share passes the bound's quotient, the product passes the bound
+-- where a share exceeds the bound's quotient, the product exceeds the bound
 pub passes : (share b max : ℕ) → 1 ≤ b → max / b < share → max < share * b
 passes share b max some h =
     let bound : max < max / b * b + b = lt-div-mul-add some in

@@ -5,7 +5,7 @@ ghost use Rattle.std.specs.Ordering.{nat_cmp};
 
 use std::cmp::Ordering;
 
-/// Compares `a / b` with `c / d` for all values, also where the products of the parts pass 128 bits: by the whole parts, and where
+/// Compares `a / b` with `c / d` for all values, also where the products of the parts exceed 128 bits: by the whole parts, and where
 /// these are equal by what is left of them, turned over, as Euclid's algorithm goes.
 ///
 /// Takes four divisions a step, and at most as many steps as Euclid's algorithm for the smaller denominator.

@@ -87,7 +87,7 @@ impl Ratio {
     }
 }
 
-/// The fraction `a * b / den` in lowest terms, where its numerator is at most `max`, also where the product passes 128 bits.
+/// The fraction `a * b / den` in lowest terms, where its numerator is at most `max`, also where the product exceeds 128 bits.
 ///
 /// Takes two greatest common divisors and four divisions.
 pub fn product_within(a: u128, b: u128, den: u128, max: u128) -> Option<Ratio>

@@ -167,7 +167,10 @@ impl Tally {
         requires few_started { All (λ n. n < 2 ^ 64 - 1) self.old.started }
         requires few_received { All (λ n. n < 2 ^ 64 - 1) self.old.received }
         requires few_computed { self.old.computed < 2 ^ 64 - 1 }
-        ensures { MatchResult result (λ done. (broken_rule timed.now series ticks_per_unit last self.old op ≡ None) × (self.new ≡ noted timed.now ticks_per_unit self.old op)) (λ rule. broken_rule timed.now series ticks_per_unit last self.old op ≡ Some rule) }
+        ensures { MatchResult result
+            (λ done. (broken_rule timed.now series ticks_per_unit last self.old op ≡ None)
+                × (self.new ≡ noted timed.now ticks_per_unit self.old op))
+            (λ rule. broken_rule timed.now series ticks_per_unit last self.old op ≡ Some rule) }
     {
         if start_of(op) < self.last {
             return Err(Rule::Order);

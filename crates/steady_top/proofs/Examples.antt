@@ -25,7 +25,7 @@ busy_table = record { period = 2; tasks = 1; depth = 0; routes = record { links 
 abbrev slow_table : Table
 slow_table = record { period = 3; tasks = 1; depth = 0; routes = record { links = []; end = 0; count = 1; kind = 0 } ∷ []; slots = record { duration = 3; pieces = [] } ∷ [] }
 
--- the slow table is not best where the other one is: the first period of that passes its rate
+-- the slow table is not best where the other one is: the first period of that exceeds its rate
 not_both : IsBest lone Tasking busy_table → IsBest lone Tasking slow_table → ⊥
 not_both busy slow =
     let bad : 3 ≤ 2 = slow.upper.bounds (table_schedule lone Tasking busy_table 1) (busy.valid 1) in

@@ -142,7 +142,7 @@ pub record IsSecondFault (command : Command) (before after : FilesView) (name : 
   pub cause : HasCause before name after
   pub two_opens : after.opens ≡ raised (raised before.opens 1) 1
 
--- why a command is refused; want of memory may come at any time
+-- why a command is refused; memory may run out at any time
 abbrev pub IsCauseFor : Command → FilesView → FilesView → Refusal → Type 0
 IsCauseFor command before after (cannot_read name) = IsFirstFault command before after name ⊎ IsSecondFault command before after name
 IsCauseFor command before after no_memory = Unit {0}

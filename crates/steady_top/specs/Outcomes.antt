@@ -60,7 +60,7 @@ abbrev pub with_platform : (TimedView → Outcome) → Result PlatformView Platf
 with_platform next (Err fault) = refuses (platform_refusal fault)
 with_platform next (Ok p) = with_timed next (timed_of p)
 
--- what comes of the bytes of a platform file; of a longer one no more is read than one byte past the limit
+-- what comes of the bytes of a platform file; of a longer one no more is read than one byte more than the limit
 abbrev pub with_file : (TimedView → Outcome) → List ℕ → Outcome
 with_file next bytes = cond (nat_lt most_bytes (length bytes)) (refuses (refused (no_platform (Limit Text (most_bytes + 1))))) (with_platform next (platform_of bytes))
 
@@ -134,7 +134,7 @@ judged_reading t (Ok c) = judged t c (verdict_of (tasking_programme t) c)
 judged_reading t (Err (text.Line number)) = refuses (refused (certificate_line number))
 judged_reading t (Err text.NoMemory) = refuses no_memory
 
--- what comes of the bytes of a certificate; of a longer one no more is read than one byte past the limit
+-- what comes of the bytes of a certificate; of a longer one no more is read than one byte more than the limit
 abbrev pub check_of_file : TimedView → List ℕ → Outcome
 check_of_file t bytes = cond (nat_lt most_bytes (length bytes)) (refuses (refused long_certificate)) (judged_reading t (certificate_of Tasking (length (tasking_programme t).rows) bytes))
 
@@ -147,7 +147,7 @@ check_of_name name (Some bytes) t = check_of_file t bytes
 abbrev pub most_plan_bytes : ℕ
 most_plan_bytes = 4194304
 
--- what comes of the bytes of a plan; of a longer one no more is read than one byte past the limit
+-- what comes of the bytes of a plan; of a longer one no more is read than one byte more than the limit
 abbrev pub audit_of_file : ℕ → TimedView → List ℕ → Outcome
 audit_of_file periods t bytes = cond (nat_lt most_plan_bytes (length bytes)) (refuses (refused long_plan)) (audits periods t bytes)
 

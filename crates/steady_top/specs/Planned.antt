@@ -80,7 +80,7 @@ pub record IsProved (t : TimedView) (c : CertificateView) (text : List ℕ) : Ty
   pub rate : IsUpperRate t Tasking (nat_abs c.best * t.unit) (nat_abs c.scale)
   pub is_line : text ≡ upper_text t c
 
--- the outcome refuses so; want of memory may come at any time
+-- the outcome refuses so; memory may run out at any time
 abbrev pub MayRefuse : Outcome → Refusal → Type 0
 MayRefuse outcome no_memory = Unit {0}
 MayRefuse outcome usage = ⊥
@@ -139,7 +139,7 @@ pub record IsScheduleOf (periods : ℕ) (t : TimedView) (bytes : List ℕ) (seri
   pub short : length (ops_below t series table periods) ≤ most_operations
   pub is : schedule ≡ table_schedule t series table periods
 
--- the plan is refused so; want of memory may come at any time
+-- the plan is refused so; memory may run out at any time
 abbrev pub IsAuditFault : ℕ → TimedView → List ℕ → Refusal → Type 0
 IsAuditFault periods t bytes no_memory = Unit {0}
 IsAuditFault periods t bytes usage = ⊥

@@ -32,7 +32,7 @@ pub data Reason : Type 0 where
   uncovered_column : ℕ → Reason
   -- the prices make more of the right-hand sides than the certificate's best
   passed_value : Reason
-  -- a sum of this column passes its bound in the check
+  -- a sum of this column exceeds its bound in the check
   check_overflow : ℕ → Reason
   -- the plan's file is too long
   long_plan : Reason

@@ -36,7 +36,7 @@ pub enum CheckFault {
     UncoveredColumn(u32),
     /// The prices make more of the right-hand sides than the certificate's best.
     PassedValue,
-    /// A product or a sum of this column passes 2^127 - 1 in size.
+    /// A product or a sum of this column exceeds 2^127 - 1 in size.
     Overflow(u32),
 }
 
@@ -77,7 +77,7 @@ impl fmt::Display for CheckFault {
 
 /// Why the program refuses, with what its error line names. `Display` writes the line without `error: ` and the line feed.
 ///
-/// A fault of the crates below stands here as it is, but for want of memory, which is one case for all.
+/// A fault of the crates below stands here as it is, but for `NoMemory`, which is one case for all.
 #[derive(Clone, Copy)]
 pub enum TopFault<'a> {
     /// The words are no command.

@@ -35,7 +35,9 @@ fn read_timed<'a, F: Files>(
     files: &mut F,
     name: &'a str,
 ) -> Result<Timed, TopFault<'a>>
-    ensures { MatchResult result (λ t. IsPlatformRead (F.state files.old) name.now (F.state files.new) t) (λ fault. IsPlatformFault (F.state files.old) name.now (F.state files.new) (refusal_of fault)) }
+    ensures { MatchResult result
+        (λ t. IsPlatformRead (F.state files.old) name.now (F.state files.new) t)
+        (λ fault. IsPlatformFault (F.state files.old) name.now (F.state files.new) (refusal_of fault)) }
 {
     let bytes = match read_whole(alloc, files, name, MOST_BYTES) {
         Ok(bytes) => bytes,
@@ -57,7 +59,9 @@ fn plan_of<'a>(
     series: Series,
     pivots: u64,
 ) -> Result<String, TopFault<'a>>
-    ensures { MatchResult result (λ text. IsBestPlan pivots timed.now (string_bytes text)) (λ fault. MayRefuse (plan_of pivots timed.now) (refusal_of fault)) }
+    ensures { MatchResult result
+        (λ text. IsBestPlan pivots timed.now (string_bytes text))
+        (λ fault. MayRefuse (plan_of pivots timed.now) (refusal_of fault)) }
 {
     let _ = series;
     let plan = planner::plan(alloc, timed, Series::Tasking, pivots)?;
@@ -72,7 +76,9 @@ pub fn plan<'a, F: Files>(
     series: Series,
     pivots: u64,
 ) -> Result<String, TopFault<'a>>
-    ensures { MatchResult result (λ text. IsMade (plan name.now series pivots) (F.state files.old) (F.state files.new) (string_bytes text)) (λ fault. IsCauseFor (plan name.now series pivots) (F.state files.old) (F.state files.new) (refusal_of fault)) }
+    ensures { MatchResult result
+        (λ text. IsMade (plan name.now series pivots) (F.state files.old) (F.state files.new) (string_bytes text))
+        (λ fault. IsCauseFor (plan name.now series pivots) (F.state files.old) (F.state files.new) (refusal_of fault)) }
 {
     let timed = read_timed(alloc, files, name)?;
     plan_of(alloc, &timed, series, pivots)
@@ -85,7 +91,9 @@ fn prices_of<'a>(
     series: Series,
     pivots: u64,
 ) -> Result<String, TopFault<'a>>
-    ensures { MatchResult result (λ text. IsBestPrices pivots timed.now (string_bytes text)) (λ fault. MayRefuse (certificate_for pivots timed.now) (refusal_of fault)) }
+    ensures { MatchResult result
+        (λ text. IsBestPrices pivots timed.now (string_bytes text))
+        (λ fault. MayRefuse (certificate_for pivots timed.now) (refusal_of fault)) }
 {
     let _ = series;
     let certificate = planner::prices(alloc, timed, Series::Tasking, pivots)?;
@@ -100,7 +108,9 @@ pub fn prices<'a, F: Files>(
     series: Series,
     pivots: u64,
 ) -> Result<String, TopFault<'a>>
-    ensures { MatchResult result (λ text. IsMade (prices name.now series pivots) (F.state files.old) (F.state files.new) (string_bytes text)) (λ fault. IsCauseFor (prices name.now series pivots) (F.state files.old) (F.state files.new) (refusal_of fault)) }
+    ensures { MatchResult result
+        (λ text. IsMade (prices name.now series pivots) (F.state files.old) (F.state files.new) (string_bytes text))
+        (λ fault. IsCauseFor (prices name.now series pivots) (F.state files.old) (F.state files.new) (refusal_of fault)) }
 {
     let timed = read_timed(alloc, files, name)?;
     prices_of(alloc, &timed, series, pivots)
@@ -115,7 +125,9 @@ fn read_named_certificate<'a, F: Files>(
     lp: &Lp,
 ) -> Result<Certificate, TopFault<'a>>
     requires { lp.now ≡ tasking_programme timed.now }
-    ensures read { MatchResult result (λ c. IsCertificateRead timed.now (F.state files.old) name.now (F.state files.new) c) (λ fault. IsCertificateFault timed.now (F.state files.old) name.now (F.state files.new) (refusal_of fault)) }
+    ensures read { MatchResult result
+        (λ c. IsCertificateRead timed.now (F.state files.old) name.now (F.state files.new) c)
+        (λ fault. IsCertificateFault timed.now (F.state files.old) name.now (F.state files.new) (refusal_of fault)) }
     ensures rows { IfOk result (λ c. length c.prices ≡ length lp.now.rows) }
 {
     lp.known();
@@ -178,7 +190,9 @@ fn judge<'a>(
 ) -> Result<String, TopFault<'a>>
     requires programme { lp.now ≡ tasking_programme timed.now }
     requires rows { length certificate.now.prices ≡ length lp.now.rows }
-    ensures text { MatchResult result (λ text. IsProved timed.now certificate.now (string_bytes text)) (λ fault. IsJudged timed.now certificate.now (refusal_of fault)) }
+    ensures text { MatchResult result
+        (λ text. IsProved timed.now certificate.now (string_bytes text))
+        (λ fault. IsJudged timed.now certificate.now (refusal_of fault)) }
 {
     timed.known();
     match dual_checker::check(lp, certificate) {
@@ -199,7 +213,9 @@ fn check_named<'a, F: Files>(
     lp: &Lp,
 ) -> Result<String, TopFault<'a>>
     requires { lp.now ≡ tasking_programme timed.now }
-    ensures { MatchResult result (λ text. IsChecked timed.now (F.state files.old) name.now (F.state files.new) (string_bytes text)) (λ fault. IsCertificateFault timed.now (F.state files.old) name.now (F.state files.new) (refusal_of fault)) }
+    ensures { MatchResult result
+        (λ text. IsChecked timed.now (F.state files.old) name.now (F.state files.new) (string_bytes text))
+        (λ fault. IsCertificateFault timed.now (F.state files.old) name.now (F.state files.new) (refusal_of fault)) }
 {
     let certificate = read_named_certificate(alloc, files, name, timed, lp)?;
     judge(alloc, timed, lp, &certificate)
@@ -212,7 +228,9 @@ fn check_over<'a, F: Files>(
     name: &'a str,
     timed: &Timed,
 ) -> Result<String, TopFault<'a>>
-    ensures { MatchResult result (λ text. IsChecked timed.now (F.state files.old) name.now (F.state files.new) (string_bytes text)) (λ fault. IsCertificateFault timed.now (F.state files.old) name.now (F.state files.new) (refusal_of fault)) }
+    ensures { MatchResult result
+        (λ text. IsChecked timed.now (F.state files.old) name.now (F.state files.new) (string_bytes text))
+        (λ fault. IsCertificateFault timed.now (F.state files.old) name.now (F.state files.new) (refusal_of fault)) }
 {
     let lp = tasking_lp(alloc, timed)?;
     check_named(alloc, files, name, timed, &lp)
@@ -226,7 +244,9 @@ pub fn check<'a, F: Files>(
     second: &'a str,
     series: Series,
 ) -> Result<String, TopFault<'a>>
-    ensures { MatchResult result (λ text. IsMade (check name.now second.now series) (F.state files.old) (F.state files.new) (string_bytes text)) (λ fault. IsCauseFor (check name.now second.now series) (F.state files.old) (F.state files.new) (refusal_of fault)) }
+    ensures { MatchResult result
+        (λ text. IsMade (check name.now second.now series) (F.state files.old) (F.state files.new) (string_bytes text))
+        (λ fault. IsCauseFor (check name.now second.now series) (F.state files.old) (F.state files.new) (refusal_of fault)) }
 {
     let _ = series;
     let timed = read_timed(alloc, files, name)?;
@@ -241,7 +261,9 @@ fn read_named_plan<'a, F: Files>(
     timed: &Timed,
     periods: u64,
 ) -> Result<Vec<u8>, TopFault<'a>>
-    ensures { MatchResult result (λ bytes. IsPlanRead timed.now periods (F.state files.old) name.now (F.state files.new) bytes.items) (λ fault. IsPlanFault timed.now periods (F.state files.old) name.now (F.state files.new) (refusal_of fault)) }
+    ensures { MatchResult result
+        (λ bytes. IsPlanRead timed.now periods (F.state files.old) name.now (F.state files.new) bytes.items)
+        (λ fault. IsPlanFault timed.now periods (F.state files.old) name.now (F.state files.new) (refusal_of fault)) }
 {
     match read_whole(alloc, files, name, MOST_PLAN_BYTES) {
         Ok(bytes) => Ok(bytes),
@@ -294,7 +316,9 @@ fn schedule_in<'a>(
     periods: u64,
 ) -> Result<(Series, Schedule), TopFault<'a>>
     requires { periods ≤ 1000000 }
-    ensures { MatchResult result (λ found. IsScheduleOf periods timed.now bytes.now found.0 found.1) (λ fault. IsAuditFault periods timed.now bytes.now (refusal_of fault)) }
+    ensures { MatchResult result
+        (λ found. IsScheduleOf periods timed.now bytes.now found.0 found.1)
+        (λ fault. IsAuditFault periods timed.now bytes.now (refusal_of fault)) }
 {
     let (series, table) = match read_plan(alloc, timed, bytes) {
         Ok(found) => found,
@@ -318,7 +342,9 @@ fn audit_of<'a>(
     periods: u64,
 ) -> Result<String, TopFault<'a>>
     requires { periods ≤ 1000000 }
-    ensures { MatchResult result (λ text. IsAudit periods timed.now bytes.now (string_bytes text)) (λ fault. IsAuditFault periods timed.now bytes.now (refusal_of fault)) }
+    ensures { MatchResult result
+        (λ text. IsAudit periods timed.now bytes.now (string_bytes text))
+        (λ fault. IsAuditFault periods timed.now bytes.now (refusal_of fault)) }
 {
     let (series, schedule) = schedule_in(alloc, timed, bytes, periods)?;
     match check_schedule(timed, series, &schedule) {
@@ -336,7 +362,9 @@ fn audit_over<'a, F: Files>(
     periods: u64,
 ) -> Result<String, TopFault<'a>>
     requires { periods ≤ 1000000 }
-    ensures { MatchResult result (λ text. IsAudited timed.now periods (F.state files.old) name.now (F.state files.new) (string_bytes text)) (λ fault. IsUnaudited timed.now periods (F.state files.old) name.now (F.state files.new) (refusal_of fault)) }
+    ensures { MatchResult result
+        (λ text. IsAudited timed.now periods (F.state files.old) name.now (F.state files.new) (string_bytes text))
+        (λ fault. IsUnaudited timed.now periods (F.state files.old) name.now (F.state files.new) (refusal_of fault)) }
 {
     timed.known();
     let bytes = read_named_plan(alloc, files, name, timed, periods)?;
@@ -352,7 +380,9 @@ pub fn audit<'a, F: Files>(
     periods: u64,
 ) -> Result<String, TopFault<'a>>
     requires { periods ≤ 1000000 }
-    ensures { MatchResult result (λ text. IsMade (audit name.now second.now periods) (F.state files.old) (F.state files.new) (string_bytes text)) (λ fault. IsCauseFor (audit name.now second.now periods) (F.state files.old) (F.state files.new) (refusal_of fault)) }
+    ensures { MatchResult result
+        (λ text. IsMade (audit name.now second.now periods) (F.state files.old) (F.state files.new) (string_bytes text))
+        (λ fault. IsCauseFor (audit name.now second.now periods) (F.state files.old) (F.state files.new) (refusal_of fault)) }
 {
     let timed = read_timed(alloc, files, name)?;
     audit_over(alloc, files, second, &timed, periods)

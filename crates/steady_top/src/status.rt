@@ -12,7 +12,7 @@ pub enum Status {
     Usage,
     /// The platform file is refused.
     Platform,
-    /// A number of ticks or of a pivot passed its bound.
+    /// A number of ticks or of a pivot exceeded its bound.
     Overflow,
     /// The pivot limit is spent.
     Spent,

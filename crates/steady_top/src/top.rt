@@ -22,7 +22,9 @@ fn answer<'a, F: Files>(
     words: &'a [String],
     files: &mut F,
 ) -> Result<String, TopFault<'a>>
-    ensures { MatchResult result (λ text. IsAnswer (map string_bytes words.now) (F.state files.old) (F.state files.new) (string_bytes text)) (λ fault. IsCause (map string_bytes words.now) (F.state files.old) (F.state files.new) (refusal_of fault)) }
+    ensures { MatchResult result
+        (λ text. IsAnswer (map string_bytes words.now) (F.state files.old) (F.state files.new) (string_bytes text))
+        (λ fault. IsCause (map string_bytes words.now) (F.state files.old) (F.state files.new) (refusal_of fault)) }
 {
     match command_in(alloc, words) {
         Ok(
@@ -68,9 +70,10 @@ fn finish<S: Sink>(out: &mut S, text: &[u8], status: Status) -> Status
     }
 }
 
-/// Writes the refusal's error line; without memory for it, that of want of memory.
+/// Writes the refusal's error line; without memory for it, the line `out of memory`.
 pub fn refuse<S: Sink>(alloc: Global, fault: &TopFault, out: &mut S) -> Status
-    ensures { IsOneOf (refusal_of fault.now) no_memory (λ refusal. Ends (status_of refusal) (error_line refusal) (S.state out.old) (S.state out.new) result) }
+    ensures { IsOneOf (refusal_of fault.now) no_memory
+        (λ refusal. Ends (status_of refusal) (error_line refusal) (S.state out.old) (S.state out.new) result) }
 {
     match fault.line(alloc) {
         Ok(line) => finish(out, line.as_bytes(), fault.status()),
@@ -102,20 +105,30 @@ pub fn steady<F: Files, S: Sink>(
     // Done only where the definitions print a text for the words and the files, just that text was written, and it is what its command
     // claims: the text of a best table, the certificate of the best rate, a rate that a certificate proves, or what a plan completes by a
     // schedule that keeps every rule.
-    ensures done { result ≡ Status.Done → IsPrinted (map string_bytes words.now) (F.state files.old) (F.state files.new) (S.state out.old) (S.state out.new) }
+    ensures done { result ≡ Status.Done
+        → IsPrinted (map string_bytes words.now) (F.state files.old) (F.state files.new) (S.state out.old) (S.state out.new) }
 
     // Each refusal comes with its cause, and its one error line was written.
-    ensures usage { result ≡ Status.Usage → IsRefused (map string_bytes words.now) (F.state files.old) (F.state files.new) (S.state out.old) (S.state out.new) usage }
-    ensures platform { result ≡ Status.Platform → IsRefusedWith Status.Platform (map string_bytes words.now) (F.state files.old) (F.state files.new) (S.state out.old) (S.state out.new) }
-    ensures overflow { result ≡ Status.Overflow → IsRefusedWith Status.Overflow (map string_bytes words.now) (F.state files.old) (F.state files.new) (S.state out.old) (S.state out.new) }
-    ensures spent { result ≡ Status.Spent → IsRefusedWith Status.Spent (map string_bytes words.now) (F.state files.old) (F.state files.new) (S.state out.old) (S.state out.new) }
-    ensures too_long { result ≡ Status.TooLong → IsRefusedWith Status.TooLong (map string_bytes words.now) (F.state files.old) (F.state files.new) (S.state out.old) (S.state out.new) }
-    ensures refused { result ≡ Status.Refused → IsRefusedWith Status.Refused (map string_bytes words.now) (F.state files.old) (F.state files.new) (S.state out.old) (S.state out.new) }
-    ensures read_fault { result ≡ Status.ReadFault → (name : List ℕ) × IsRefused (map string_bytes words.now) (F.state files.old) (F.state files.new) (S.state out.old) (S.state out.new) (cannot_read name) }
-    ensures memory { result ≡ Status.NoMemory → IsRefused (map string_bytes words.now) (F.state files.old) (F.state files.new) (S.state out.old) (S.state out.new) no_memory }
-    ensures write_fault { result ≡ Status.WriteFault → IsCutShort (map string_bytes words.now) (F.state files.old) (F.state files.new) (S.state out.old) (S.state out.new) }
+    ensures usage { result ≡ Status.Usage
+        → IsRefused (map string_bytes words.now) (F.state files.old) (F.state files.new) (S.state out.old) (S.state out.new) usage }
+    ensures platform { result ≡ Status.Platform
+        → IsRefusedWith Status.Platform (map string_bytes words.now) (F.state files.old) (F.state files.new) (S.state out.old) (S.state out.new) }
+    ensures overflow { result ≡ Status.Overflow
+        → IsRefusedWith Status.Overflow (map string_bytes words.now) (F.state files.old) (F.state files.new) (S.state out.old) (S.state out.new) }
+    ensures spent { result ≡ Status.Spent
+        → IsRefusedWith Status.Spent (map string_bytes words.now) (F.state files.old) (F.state files.new) (S.state out.old) (S.state out.new) }
+    ensures too_long { result ≡ Status.TooLong
+        → IsRefusedWith Status.TooLong (map string_bytes words.now) (F.state files.old) (F.state files.new) (S.state out.old) (S.state out.new) }
+    ensures refused { result ≡ Status.Refused
+        → IsRefusedWith Status.Refused (map string_bytes words.now) (F.state files.old) (F.state files.new) (S.state out.old) (S.state out.new) }
+    ensures read_fault { result ≡ Status.ReadFault
+        → (name : List ℕ) × IsRefused (map string_bytes words.now) (F.state files.old) (F.state files.new) (S.state out.old) (S.state out.new) (cannot_read name) }
+    ensures memory { result ≡ Status.NoMemory
+        → IsRefused (map string_bytes words.now) (F.state files.old) (F.state files.new) (S.state out.old) (S.state out.new) no_memory }
+    ensures write_fault { result ≡ Status.WriteFault
+        → IsCutShort (map string_bytes words.now) (F.state files.old) (F.state files.new) (S.state out.old) (S.state out.new) }
 
-    // Where the files tell what they hold and nothing failed, the answer is the one that the definitions give, or want of memory.
+    // Where the files tell what they hold and nothing failed, the answer is the one that the definitions give, or out of memory.
     ensures complete { (holds : List ℕ → Option (List ℕ)) → AreToldAs (F.state files.old) holds → IsText (outcome_of (map string_bytes words.now) holds)
         → ¬ (Rose (F.state files.old).faults (F.state files.new).faults) → ¬ (Rose (S.state out.old).faults (S.state out.new).faults)
         → (result ≡ Status.Done) ⊎ (result ≡ Status.NoMemory) }

@@ -19,7 +19,7 @@ parted by (b ∷ bytes) = cond (nat_eq b by) (Some ([], bytes)) (option_map (λ 
 abbrev pub first_line : List ℕ → Option (List ℕ × List ℕ)
 first_line bytes = parted 10 bytes
 
--- the words of a line, parted by one space each
+-- the words of a line, separated by one space each
 abbrev pub words_of : List ℕ → List (List ℕ)
 words_of text = slice_split (λ b. nat_eq b 32) text
 

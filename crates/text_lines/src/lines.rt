@@ -25,7 +25,7 @@ pub fn first_line(bytes: &[u8]) -> Option<(&[u8], &[u8])>
     parted(b'\n', bytes)
 }
 
-/// The words of a line, which are parted by one space each: there is one more than there are spaces.
+/// The words of a line, which are separated by one space each: there is one more than there are spaces.
 pub fn words_of(alloc: Global, text: &[u8]) -> Result<Listed<&[u8]>, NoMemory>
     ensures { IfOk result (λ words. map (λ word. word.now) words ≡ words_of text.now) }
 {

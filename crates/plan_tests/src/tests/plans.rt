@@ -105,7 +105,7 @@ fn prices_and_plans_two_workers(rt: HostRuntime) -> Result<(), Fail> {
     tells_of(rt.alloc(), TWO_WORKERS, Told::Workers)
 }
 
-/// Chains, and where their period passes its bound.
+/// Chains, and where their period exceeds its bound.
 static LONG_PERIODS: [(&str, &str, PlanFault); 2] = [
     (
         "the product of the period and the costs",

@@ -404,7 +404,7 @@ fn refuses_too_much(rt: HostRuntime) -> Result<(), Fail> {
     tells_crowds(rt.alloc())
 }
 
-/// Three denominators, of which the third makes their least common multiple pass 2^40.
+/// Three denominators, of which the third makes their least common multiple exceed 2^40.
 const THREE_DENOMINATORS: &str =
     "version = 1\nmaster = 'm'\nnode = [{name = 'm', time = '1/999999'}, {name = 'x', time = '1/999998'}, {name = 'y', time = '1/999997'}]";
 

@@ -5,7 +5,7 @@ use Rattle.clap.specs.declared.error.kind.ErrorKind.TheVariants as kind
 use Rattle.command_words.specs.Words.{unless_refused}
 use Rattle.command_words.proofs.finding.found_by.Goals as goal
 
--- an error of another kind than want of memory has one of the kinds
+-- an error of another kind than memory has one of the kinds
 is_refused : (kinds : Kinds) (rows : List Row) (e : Error) → HasKind kinds e → (kind_of e ≡ kind.OutOfMemory → ⊥) → unless_refused kinds rows ≡ None
 is_refused [] rows e (inl memory) other = absurd (other memory)
 is_refused [] rows e (inr none) other = absurd none

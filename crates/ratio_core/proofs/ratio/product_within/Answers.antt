@@ -25,7 +25,7 @@ inside f n max l e = let t : nat_le f.num max ≡ true = grind (arith, nat_tests
 outside : (f : Fraction) (n max : ℕ) → max < n → n ≡ f.num → None ≡ cond (nat_le f.num max) (Some f) None
 outside f n max l e = let t : nat_le f.num max ≡ false = grind (arith, nat_tests) in rw t refl
 
--- a product that doesn't fit passes every bound that does
+-- a product that doesn't fit exceeds every bound that does
 past : (f : Fraction) (n max : ℕ) (r : Option Fraction) → r ≡ None → ¬ (n < 2 ^ 128) → max < 2 ^ 128 → n ≡ f.num → r ≡ cond (nat_le f.num max) (Some f) None
 past f n max r none big small e = none ∙ outside f n max (omega (arith, big, small)) e
 
