@@ -2,7 +2,7 @@
 
 ghost use Rattle.std.specs.Prelude.{◌≡◌, ◌≢◌, ◌≤◌, Err, Some};
 ghost use Rattle.linear_program.specs.Duality.{IsBounded};
-ghost use Rattle.linear_program.specs.Starts.{start_table};
+ghost use Rattle.linear_program.specs.Starts.{start_tableau};
 ghost use Rattle.exact_simplex.specs.Answers.{answer_of};
 ghost use Rattle.exact_simplex.specs.Bland.{bland_run};
 
@@ -17,14 +17,14 @@ use std::alloc::Global;
 /// The most pivots of a run.
 const MOST_PIVOTS: u64 = 100000;
 
-/// Solves a bounded programme over a table of whole rows.
+/// Solves a bounded programme over a tableau of whole rows.
 fn solved(alloc: Global, lp: &Lp, limit: u64) -> Result<Optimum, SolveFault>
     requires { IsBounded lp.now }
-    ensures { result ≢ Err SolveFault.NoMemory → answer_of limit (bland_run limit (start_table lp.now)) ≡ Some result }
+    ensures { result ≢ Err SolveFault.NoMemory → answer_of limit (bland_run limit (start_tableau lp.now)) ≡ Some result }
 {
     lp.known();
-    let mut table = Dense::start(alloc, lp)?;
-    solve(alloc, &mut table, limit)
+    let mut tableau = Dense::start(alloc, lp)?;
+    solve(alloc, &mut tableau, limit)
 }
 
 /// The best rate of an optimum.

@@ -1,6 +1,6 @@
--- A table whose rows stand in one list, one after the other.
+-- A tableau whose rows stand in one list, one after the other.
 use Rattle.std.specs.Prelude.{◌≡◌, ℕ, ◌+◌, ◌*◌, ◌<◌, ◌^◌, ℤ, pos, cond, nat_lt, List, length, slice_index_or}
-use Rattle.linear_program.specs.Tables.{TableauView}
+use Rattle.linear_program.specs.Tableaux.{TableauView}
 
 -- a row's number in a column, 0 beyond its end
 abbrev pub entry : List ℤ → ℕ → ℤ
@@ -10,7 +10,7 @@ entry row j = slice_index_or row j (pos 0)
 abbrev pub cell_of : ℕ → List ℤ → ℕ → ℕ → ℤ
 cell_of width cells i j = cond (nat_lt j width) (entry cells (i * width + j)) (pos 0)
 
--- the sizes of a table, its cells row after row, and each row's basic column
+-- the sizes of a tableau, its cells row after row, and each row's basic column
 pub record FlatView : Type 0 where
   pub values : ℕ
   pub constraints : ℕ
@@ -21,9 +21,9 @@ pub record FlatView : Type 0 where
 abbrev pub flat_width : FlatView → ℕ
 flat_width f = f.values + f.constraints + 2
 
--- the table that the lists are
-abbrev pub flat_table : FlatView → TableauView
-flat_table f = record {
+-- the tableau that the lists are
+abbrev pub flat_tableau : FlatView → TableauView
+flat_tableau f = record {
   values = f.values;
   constraints = f.constraints;
   cell = cell_of (flat_width f) f.cells;

@@ -1,11 +1,11 @@
-//! The table over one vector.
+//! The tableau over one vector.
 
 ghost use Rattle.std.specs.Prelude.{◌≡◌, ◌≢◌, ℕ, ℤ, pos, ◌+◌, ◌*◌, ◌^◌, ◌<◌, ◌≤◌, ◌<ℤ◌, length, OnOk, OnErr, IfOk, Err};
-ghost use Rattle.linear_program.specs.Tables.{TableauView, width};
-ghost use Rattle.linear_program.specs.Starts.{start_table};
+ghost use Rattle.linear_program.specs.Tableaux.{TableauView, width};
+ghost use Rattle.linear_program.specs.Starts.{start_tableau};
 ghost use Rattle.linear_program.specs.Pivots.{Pivoted, pivoted};
 ghost use Rattle.linear_program.proofs.Pivots.{pivoted_keeps_solutions};
-ghost use Rattle.dense_tableau.specs.Flat.{FlatView, IsFlat, flat_table, flat_width};
+ghost use Rattle.dense_tableau.specs.Flat.{FlatView, IsFlat, flat_tableau, flat_width};
 
 use crate::pivoting::pivot_cells;
 use crate::starting::{start_basics, write_start};
@@ -14,7 +14,7 @@ use listed::NoMemory;
 use std::alloc::Global;
 use std::marker::Model;
 
-/// A table whose rows stand one after the other in one vector, 16 bytes a cell. A pivot takes no memory.
+/// A tableau whose rows stand one after the other in one vector, 16 bytes a cell. A pivot takes no memory.
 #[derive(Drop)]
 pub struct Dense {
     values: u32,
@@ -34,7 +34,7 @@ impl Model for Dense {
 }
 
 impl Dense {
-    /// What is known of every table: its lists are whole, and its columns have 32-bit numbers.
+    /// What is known of every tableau: its lists are whole, and its columns have 32-bit numbers.
     pub fn known(&self)
         ensures { IsFlat self.now }
     {
@@ -43,9 +43,9 @@ impl Dense {
 }
 
 impl Tableau for Dense {
-    ghost table = { λ x. flat_table x };
+    ghost tableau = { λ x. flat_tableau x };
 
-    ghost keeps_solutions = { λ x y row column. pivoted_keeps_solutions (flat_table x) (flat_table y) row column };
+    ghost keeps_solutions = { λ x y row column. pivoted_keeps_solutions (flat_tableau x) (flat_tableau y) row column };
 
     fn start(alloc: Global, lp: &Lp) -> Result<Dense, NoMemory> {
         lp.known();
@@ -87,10 +87,10 @@ impl Tableau for Dense {
     fn pivot(&mut self, row: u32, column: u32) -> Result<(), PivotFault>
         requires row { row < self.old.constraints }
         requires column { column < flat_width self.old }
-        requires positive { pos 0 <ℤ (flat_table self.old).cell row column }
-        ensures ok { OnOk result (pivoted (flat_table self.old) row column ≡ Pivoted.table (flat_table self.new)) }
-        ensures overflow { (i j : ℕ) → result ≡ Err (PivotFault.Overflow i j) → pivoted (flat_table self.old) row column ≡ Pivoted.overflow i j }
-        ensures refused { OnErr result (flat_table self.new ≡ flat_table self.old) }
+        requires positive { pos 0 <ℤ (flat_tableau self.old).cell row column }
+        ensures ok { OnOk result (pivoted (flat_tableau self.old) row column ≡ Pivoted.tableau (flat_tableau self.new)) }
+        ensures overflow { (i j : ℕ) → result ≡ Err (PivotFault.Overflow i j) → pivoted (flat_tableau self.old) row column ≡ Pivoted.overflow i j }
+        ensures refused { OnErr result (flat_tableau self.new ≡ flat_tableau self.old) }
         ensures no_memory_taken { result ≢ Err PivotFault.NoMemory }
     {
         self.known();

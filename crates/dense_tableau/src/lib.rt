@@ -1,4 +1,4 @@
-//! A table of whole rows in one vector.
+//! A tableau of whole rows in one vector.
 #![tactic(auto)]
 
 mod dense;

@@ -69,7 +69,7 @@ fn change_at(cells: &mut [i128], pivot_row: &[i128], other: u32, column: u32)
     change_row(line, pivot_row, column);
 }
 
-/// Changes all rows of a part of a table as a pivot does, where none overflows.
+/// Changes all rows of a part of a tableau as a pivot does, where none overflows.
 fn change_rows(cells: &mut [i128], pivot_row: &[i128], column: u32, rows: u32)
     requires whole { length cells.old ≡ rows * length pivot_row.now }
     requires column { column < length pivot_row.now }
@@ -103,7 +103,7 @@ fn change_others(cells: &mut [i128], width: usize, row: u32, column: u32, rows: 
     change_rows(behind, pivot_row, column, rows - row - 1);
 }
 
-/// Pivots on a row and a column, or tells the first cell at which that overflows and leaves the table.
+/// Pivots on a row and a column, or tells the first cell at which that overflows and leaves the tableau.
 pub fn pivot_cells(
     cells: &mut [i128],
     width: usize,

@@ -1,4 +1,4 @@
-//! One row of a table in a pivot.
+//! One row of a tableau in a pivot.
 
 ghost use Rattle.std.specs.Prelude.{◌≡◌, ◌≢◌, ℕ, ℤ, pos, ◌*◌, ◌^◌, ◌<◌, ◌≤◌, ◌-ℤ◌, ◌*ℤ◌, ◌<ℤ◌, nat_abs, int_div, true, false, cond, nat_eq, length, IsSome, None, is_none};
 ghost use Rattle.dense_tableau.specs.Flat.{entry};

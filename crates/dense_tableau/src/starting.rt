@@ -1,4 +1,4 @@
-//! The start table, row after row.
+//! The start tableau, row after row.
 
 ghost use Rattle.std.specs.Prelude.{◌≡◌, ◌≢◌, ℕ, ℤ, pos, neg_ℤ, ◌+◌, ◌*◌, ◌^◌, ◌<◌, ◌≤◌, nat_abs, All, length, cond, nat_lt, slice_index_or, IfOk};
 ghost use Rattle.linear_program.specs.Programmes.{cell_at, gain_at};
@@ -37,7 +37,7 @@ fn write_gains(row: &mut [i128], gain: &[i128])
     }
 }
 
-/// Writes a constraint's row of the start table into zeros: its cells, 1 for its slack, and its right-hand side.
+/// Writes a constraint's row of the start tableau into zeros: its cells, 1 for its slack, and its right-hand side.
 fn start_constraint(line: &mut [i128], lp: &Lp, row: u32)
     requires row { row < length lp.now.rows }
     requires wide { length line.old ≡ lp.now.columns + length lp.now.rows + 2 }
@@ -53,7 +53,7 @@ fn start_constraint(line: &mut [i128], lp: &Lp, row: u32)
     line[side] = constraint.rhs();
 }
 
-/// Writes the objective's row of the start table into zeros: minus the gains, and 1 in its own column.
+/// Writes the objective's row of the start tableau into zeros: minus the gains, and 1 in its own column.
 fn start_objective(line: &mut [i128], lp: &Lp)
     requires wide { length line.old ≡ lp.now.columns + length lp.now.rows + 2 }
     requires zeros { (j : ℕ) → entry line.old j ≡ pos 0 }
@@ -66,7 +66,7 @@ fn start_objective(line: &mut [i128], lp: &Lp)
     line[own] = 1;
 }
 
-/// Writes a row of the start table into zeros.
+/// Writes a row of the start tableau into zeros.
 fn start_row(line: &mut [i128], lp: &Lp, row: u32)
     requires row { row ≤ length lp.now.rows }
     requires wide { length line.old ≡ lp.now.columns + length lp.now.rows + 2 }
@@ -81,7 +81,7 @@ fn start_row(line: &mut [i128], lp: &Lp, row: u32)
     }
 }
 
-/// Writes one row of the start table to its place among the rows.
+/// Writes one row of the start tableau to its place among the rows.
 fn start_at(cells: &mut [i128], lp: &Lp, width: usize, row: u32)
     requires row { row ≤ length lp.now.rows }
     requires width { width ≡ lp.now.columns + length lp.now.rows + 2 }
@@ -96,7 +96,7 @@ fn start_at(cells: &mut [i128], lp: &Lp, width: usize, row: u32)
     start_row(line, lp, row);
 }
 
-/// Writes the start table over zeros.
+/// Writes the start tableau over zeros.
 pub fn write_start(cells: &mut [i128], lp: &Lp, width: usize)
     requires width { width ≡ lp.now.columns + length lp.now.rows + 2 }
     requires whole { length cells.old ≡ (length lp.now.rows + 1) * width }
@@ -110,7 +110,7 @@ pub fn write_start(cells: &mut [i128], lp: &Lp, width: usize)
     }
 }
 
-/// The basic columns of the start table, each row's own.
+/// The basic columns of the start tableau, each row's own.
 pub fn start_basics(alloc: Global, lp: &Lp) -> Result<Vec<u32>, NoMemory>
     ensures length { IfOk result (λ v. length v.items ≡ length lp.now.rows + 1) }
     ensures basics { IfOk result (λ v. (i : ℕ) → i ≤ length lp.now.rows → slice_index_or v.items i 0 ≡ lp.now.columns + i) }

@@ -8,14 +8,14 @@ use Rattle.linear_program.proofs.Searches.{first_passes, none_passes}
 use Rattle.exact_simplex.proofs.Points.{size_of, no_ray}
 use Rattle.linear_program.proofs.Canonical.{canonical_kept, derived_kept}
 use Rattle.linear_program.proofs.Pivots.{pivoted_is}
-use Rattle.linear_program.specs.Tables.{TableauView, objective_column, side_column, IsCanonical, IsDerived, HasLeastRatio}
+use Rattle.linear_program.specs.Tableaux.{TableauView, objective_column, side_column, IsCanonical, IsDerived, HasLeastRatio}
 use Rattle.linear_program.specs.Pivots.{Pivoted, pivoted}
 use Rattle.exact_simplex.specs.Optima.{HasEnded}
 use Rattle.linear_program.specs.Programmes.{LpView, IsLp}
 use Rattle.linear_program.specs.Duality.{IsBounded}
-use Rattle.linear_program.specs.Starts.{start_table}
+use Rattle.linear_program.specs.Starts.{start_tableau}
 use Rattle.exact_simplex.specs.Bland.{is_negative, positive_part, entering_column, before_by, leaves_before, first_to_leave, leaving_below, leaving_row, step_by_pivot, step_by_row, step_by_column, Run, spent_unless_ended, run_on, run_from, bland_run, IsLeaving, IsEntering}
-use Rattle.exact_simplex.specs.Answers.{table_after}
+use Rattle.exact_simplex.specs.Answers.{tableau_after}
 use Rattle.linear_program.proofs.Starts.{start_canonical, start_derived}
 
 negative_is : (z : ℤ) → is_negative z ≡ true → z <ℤ pos 0
@@ -254,7 +254,7 @@ pub least_ratio : (t : TableauView) (column row : ℕ) → IsLeaving t column ro
 least_ratio t column row leaves = record { within = leaves.within; positive = leaves.positive; least = leaves.least }
 
 -- in a bounded programme an entering column has a leaving row
-pub some_row_leaves : (p : LpView) (t : TableauView) (column : ℕ) → IsBounded p → IsCanonical t → IsDerived (start_table p) t → IsEntering t column → leaving_row t column ≡ None → ⊥
+pub some_row_leaves : (p : LpView) (t : TableauView) (column : ℕ) → IsBounded p → IsCanonical t → IsDerived (start_tableau p) t → IsEntering t column → leaving_row t column ≡ None → ⊥
 some_row_leaves p t column bounded canonical derived enters h =
     no_ray p t column bounded canonical derived enters.within enters.negative (λ i l. no_positive_part _ (none_leaves t column t.constraints h i l))
 
@@ -273,7 +273,7 @@ pub run_overflow : (left made column row i j : ℕ) (t : TableauView) → enteri
 unfolding run_from
 run_overflow left made column row i j t h k e = rw (h, k, e) refl
 
-pub run_next : (left made column row : ℕ) (t u : TableauView) → entering_column t ≡ Some column → leaving_row t column ≡ Some row → pivoted t row column ≡ Pivoted.table u →
+pub run_next : (left made column row : ℕ) (t u : TableauView) → entering_column t ≡ Some column → leaving_row t column ≡ Some row → pivoted t row column ≡ Pivoted.tableau u →
     run_from (suc left) made t ≡ run_from left (made + 1) u
 unfolding run_from
 run_next left made column row t u h k e = rw (h, k, e) refl
@@ -282,7 +282,7 @@ pub is_negative_when : (z : ℤ) → z <ℤ pos 0 → is_negative z ≡ true
 is_negative_when (pos n) h = absurd (omega (arith, ints))
 is_negative_when (negsuc n) h = refl
 
-pub leaving_some : (p : LpView) (t : TableauView) (column : ℕ) → IsBounded p → IsCanonical t → IsDerived (start_table p) t → entering_column t ≡ Some column → IsSome (leaving_row t column)
+pub leaving_some : (p : LpView) (t : TableauView) (column : ℕ) → IsBounded p → IsCanonical t → IsDerived (start_tableau p) t → entering_column t ≡ Some column → IsSome (leaving_row t column)
 leaving_some p t column bounded canonical derived h =
     elim (leaving_row t column) as (λ o. leaving_row t column ≡ o → IsSome o) [
       | Some row ↦ λ e. refl
@@ -294,20 +294,20 @@ leaving_within t column n row h =
     let best = leaving_is_best t column n row h in
     (best.within, (positive_size (t.cell row column) best.positive).0)
 
--- a pivot of the run keeps what every table of a run keeps
-pub step_kept : (p : LpView) (t u : TableauView) (column row : ℕ) → IsCanonical t → IsDerived (start_table p) t →
-    entering_column t ≡ Some column → leaving_row t column ≡ Some row → pivoted t row column ≡ Pivoted.table u → IsCanonical u × IsDerived (start_table p) u
+-- a pivot of the run keeps what every tableau of a run keeps
+pub step_kept : (p : LpView) (t u : TableauView) (column row : ℕ) → IsCanonical t → IsDerived (start_tableau p) t →
+    entering_column t ≡ Some column → leaving_row t column ≡ Some row → pivoted t row column ≡ Pivoted.tableau u → IsCanonical u × IsDerived (start_tableau p) u
 step_kept p t u column row canonical derived h k e =
     let enters = entering_is t column h in
     let leaves = leaving_is t column row canonical k in
     let l : row < t.constraints = leaves.within in
     let step = pivoted_is t u row column leaves.positive e in (
       canonical_kept t u row column canonical step enters.within (least_ratio t column row leaves),
-      derived_kept (start_table p) t u row column derived step (omega arith),
+      derived_kept (start_tableau p) t u row column derived step (omega arith),
     )
 
 -- no run of a bounded programme comes to a column without a row
-run_found : (p : LpView) (left made : ℕ) (t u : TableauView) → IsBounded p → IsCanonical t → IsDerived (start_table p) t → run_from left made t ≢ Run.unlimited u
+run_found : (p : LpView) (left made : ℕ) (t u : TableauView) → IsBounded p → IsCanonical t → IsDerived (start_tableau p) t → run_from left made t ≢ Run.unlimited u
 unfolding run_from
 run_found p zero made t u bounded canonical derived h =
     elim (entering_column t) as (λ o. spent_unless_ended t o ≡ Run.unlimited u → ⊥) [
@@ -322,7 +322,7 @@ run_found p (suc left) made t u bounded canonical derived h =
             | None ↦ λ k h. some_row_leaves p t column bounded canonical derived (entering_is t column e) k
             | Some row ↦ λ k h.
                 elim (pivoted t row column) as (λ q. pivoted t row column ≡ q → run_on t made (λ v. run_from left (made + 1) v) (step_by_pivot q) ≡ Run.unlimited u → ⊥) [
-                  | Pivoted.table v ↦ λ f h.
+                  | Pivoted.tableau v ↦ λ f h.
                       let kept = step_kept p t v column row canonical derived e k f in
                       run_found p left (made + 1) v u bounded kept.0 kept.1 h
                   | Pivoted.overflow i j ↦ λ f h. cc
@@ -330,9 +330,9 @@ run_found p (suc left) made t u bounded canonical derived h =
           ] refl h
     ] refl h
 
-pub bounded_run : (p : LpView) → IsLp p → IsBounded p → (limit : ℕ) (t : TableauView) → bland_run limit (start_table p) ≢ Run.unlimited t
-bounded_run p lp bounded limit t = run_found p limit 0 (start_table p) t bounded (start_canonical p lp) (start_derived p)
+pub bounded_run : (p : LpView) → IsLp p → IsBounded p → (limit : ℕ) (t : TableauView) → bland_run limit (start_tableau p) ≢ Run.unlimited t
+bounded_run p lp bounded limit t = run_found p limit 0 (start_tableau p) t bounded (start_canonical p lp) (start_derived p)
 
 -- one step more
-pub after_step : (n column row : ℕ) (s t u : TableauView) → table_after n s ≡ Some t → entering_column t ≡ Some column → leaving_row t column ≡ Some row → pivoted t row column ≡ Pivoted.table u → table_after (suc n) s ≡ Some u
+pub after_step : (n column row : ℕ) (s t u : TableauView) → tableau_after n s ≡ Some t → entering_column t ≡ Some column → leaving_row t column ≡ Some row → pivoted t row column ≡ Pivoted.tableau u → tableau_after (suc n) s ≡ Some u
 after_step n column row s t u after enters leaves pivots = rw (after, enters, leaves, pivots) refl

@@ -16,8 +16,8 @@ use Rattle.linear_program.proofs.Vectors.{at_column, at_same, at_other, spread, 
 use Rattle.linear_program.specs.Sums.{sum_below}
 use Rattle.linear_program.specs.Programmes.{LpView, RowView, cell_at, row_at, gain_at, gain_value, IsLp}
 use Rattle.linear_program.specs.Duality.{priced_column, priced_sides}
-use Rattle.linear_program.specs.Tables.{TableauView, objective_column, side_column, Solves, IsCanonical, IsDerived}
-use Rattle.linear_program.specs.Starts.{start_cell, start_table}
+use Rattle.linear_program.specs.Tableaux.{TableauView, objective_column, side_column, Solves, IsCanonical, IsDerived}
+use Rattle.linear_program.specs.Starts.{start_cell, start_tableau}
 use Rattle.exact_simplex.specs.Optima.{first_terms, row_of, value_in, value_of, scale_of, best_of, price_of, optimum_of, HasEnded, IsOptimal}
 
 -- what the prices say of a column and of the right sides, as sums over the rows
@@ -39,8 +39,8 @@ priced_sides_sum (row ∷ rows) (y ∷ ys) h =
     ap (λ z. y *ℤ row.rhs +ℤ z) (priced_sides_sum rows ys (omega arith))
     ∙ sym (first_sum (length rows) (λ k. slice_index_or (y ∷ ys) k (pos 0) *ℤ (slice_index_or (row ∷ rows) k (record { cells = []; rhs = pos 0 })).rhs))
 
--- the last row of a derived table at a column of the values
-price_row : (p : LpView) (t : TableauView) (j : ℕ) → IsDerived (start_table p) t → j < p.columns →
+-- the last row of a derived tableau at a column of the values
+price_row : (p : LpView) (t : TableauView) (j : ℕ) → IsDerived (start_tableau p) t → j < p.columns →
     t.cell t.constraints j ≡ sum_below (length p.rows) (λ k. price_of t k *ℤ cell_at (row_at p k).cells j) -ℤ scale_of t *ℤ gain_at p j
 price_row p t j derived within =
     let n : t.values ≡ p.columns = derived.same_values in
@@ -59,7 +59,7 @@ price_row p t j derived within =
     let minus : pos 0 -ℤ gain_at p j ≡ neg_ℤ (gain_at p j) = omega (arith, ints) in
     whole ∙ omega (arith, ints, counted, left, right, *ℤ-zero (scale_of t), rw minus at negated)
 
-best_row : (p : LpView) (t : TableauView) → IsDerived (start_table p) t →
+best_row : (p : LpView) (t : TableauView) → IsDerived (start_tableau p) t →
     best_of t ≡ sum_below (length p.rows) (λ k. price_of t k *ℤ (row_at p k).rhs)
 best_row p t derived =
     let n : t.values ≡ p.columns = derived.same_values in
@@ -213,7 +213,7 @@ terms_at f d (suc n) k l =
     ]
 
 -- the best gain is not below 0
-pub best_not_negative : (p : LpView) (t : TableauView) → IsLp p → IsDerived (start_table p) t → HasEnded t → pos 0 ≤ℤ best_of t
+pub best_not_negative : (p : LpView) (t : TableauView) → IsLp p → IsDerived (start_tableau p) t → HasEnded t → pos 0 ≤ℤ best_of t
 best_not_negative p t lp derived ended =
     let m : t.constraints ≡ length p.rows = derived.same_constraints in
     rw (best_row p t derived) (sum_not_negative (length p.rows) (λ k. price_of t k *ℤ (row_at p k).rhs)
@@ -223,8 +223,8 @@ best_not_negative p t lp derived ended =
 pub scale_positive : (t : TableauView) → IsCanonical t → pos 0 <ℤ scale_of t
 scale_positive t canonical = rw canonical.last_basic at (canonical.own_positive t.constraints (let l : t.constraints ≤ t.constraints = omega arith in l))
 
--- the answer that is read from a table at which the run has ended
-pub ended_is_optimal : (p : LpView) (t : TableauView) → IsLp p → IsCanonical t → IsDerived (start_table p) t → HasEnded t → IsOptimal p (optimum_of t)
+-- the answer that is read from a tableau at which the run has ended
+pub ended_is_optimal : (p : LpView) (t : TableauView) → IsLp p → IsCanonical t → IsDerived (start_tableau p) t → HasEnded t → IsOptimal p (optimum_of t)
 ended_is_optimal p t lp canonical derived ended =
     let n : t.values ≡ p.columns = derived.same_values in
     let m : t.constraints ≡ length p.rows = derived.same_constraints in
@@ -237,7 +237,7 @@ ended_is_optimal p t lp canonical derived ended =
     let positive = denominator_positive t canonical in
     let den_size : pos (nat_abs (denominator t)) ≡ denominator t = size_of (denominator t) (omega (arith, ints, positive)) in
     let some_scale = scale_positive t canonical in
-    let solves : Solves (start_table p) x = (derived.solutions x).1 (basic_solves t canonical) in
+    let solves : Solves (start_tableau p) x = (derived.solutions x).1 (basic_solves t canonical) in
     let same_values : (j : ℕ) → j < p.columns → pos (point j) ≡ x j = λ j l. size_of (x j) (point_not_negative t j canonical (omega arith)) in
     let x_side : x (side_column t) ≡ pos 0 -ℤ denominator t =
     spread_beside (suc t.constraints) t.basic (basic_number t) (at_column (side_column t) (pos 0 -ℤ denominator t)) (side_column t) (basics_before_side t canonical)

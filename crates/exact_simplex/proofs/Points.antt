@@ -1,4 +1,4 @@
--- Solutions of the start table as points of the programme.
+-- Solutions of the start tableau as points of the programme.
 use Rattle.std.proofs.Common.{◌≡◌, ◌≢◌, ℕ, suc, ◌+◌, ◌<◌, ◌≤◌, ℤ, pos, negsuc, neg_ℤ, nat_abs, ◌+ℤ◌, ◌-ℤ◌, ◌*ℤ◌, ◌≤ℤ◌, ◌<ℤ◌, length, [], arith, refl, sym, ◌∙◌, ap, inl, inr}
 use Rattle.std.proofs.Math.IntN.{*ℤ-zero, *ℤ_comm}
 use Rattle.std.proofs.lemmas.Int.{ints}
@@ -12,15 +12,15 @@ use Rattle.linear_program.proofs.Vectors.{at_column, at_same, at_other, spread, 
 use Rattle.linear_program.specs.Sums.{sum_below}
 use Rattle.linear_program.specs.Programmes.{LpView, cell_at, row_at, gain_at, row_value, gain_value}
 use Rattle.linear_program.specs.Duality.{IsFeasible, IsDualFeasible, IsBounded}
-use Rattle.linear_program.specs.Tables.{TableauView, objective_column, side_column, width, Solves, IsCanonical, IsDerived}
-use Rattle.linear_program.specs.Starts.{value_cell, start_side, start_table}
+use Rattle.linear_program.specs.Tableaux.{TableauView, objective_column, side_column, width, Solves, IsCanonical, IsDerived}
+use Rattle.linear_program.specs.Starts.{value_cell, start_side, start_tableau}
 
 pub size_of : (z : ℤ) → pos 0 ≤ℤ z → pos (nat_abs z) ≡ z
 size_of (pos n) h = refl
 size_of (negsuc n) h = absurd (omega (arith, ints))
 
 -- a row of the programme at the values of a solution of the start
-pub start_line : (p : LpView) (x : ℕ → ℤ) (point : ℕ → ℕ) → ((j : ℕ) → j < p.columns → pos (point j) ≡ x j) → Solves (start_table p) x →
+pub start_line : (p : LpView) (x : ℕ → ℤ) (point : ℕ → ℕ) → ((j : ℕ) → j < p.columns → pos (point j) ≡ x j) → Solves (start_tableau p) x →
     (i : ℕ) → i < length p.rows →
     row_value p.columns (row_at p i) point +ℤ x (p.columns + i) +ℤ (row_at p i).rhs *ℤ x (p.columns + length p.rows + 1) ≡ pos 0
 start_line p x point same solves i within =
@@ -33,7 +33,7 @@ start_line p x point same solves i within =
     rw (values, ← side) (sym sum ∙ none)
 
 -- the gain is the solution's number in the objective's column
-pub start_gain : (p : LpView) (x : ℕ → ℤ) (point : ℕ → ℕ) → ((j : ℕ) → j < p.columns → pos (point j) ≡ x j) → Solves (start_table p) x →
+pub start_gain : (p : LpView) (x : ℕ → ℤ) (point : ℕ → ℕ) → ((j : ℕ) → j < p.columns → pos (point j) ≡ x j) → Solves (start_tableau p) x →
     gain_value p point ≡ x (p.columns + length p.rows)
 start_gain p x point same solves =
     let m = length p.rows in
@@ -94,7 +94,7 @@ ray_solves t c canonical within =
     sym (times_product (own_cell t k) (pos 0 -ℤ t.cell k c) (others t k)) ∙ ap (λ z. z *ℤ others t k) (*ℤ_comm (own_cell t k) (pos 0 -ℤ t.cell k c)) ∙ times_product (pos 0 -ℤ t.cell k c) (own_cell t k) (others t k) ∙ ap (λ z. (pos 0 -ℤ t.cell k c) *ℤ z) out in
     omega (arith, ints, swapped, difference_times (pos 0) (t.cell k c) (denominator t)))
 
-pub no_ray : (p : LpView) (t : TableauView) (c : ℕ) → IsBounded p → IsCanonical t → IsDerived (start_table p) t →
+pub no_ray : (p : LpView) (t : TableauView) (c : ℕ) → IsBounded p → IsCanonical t → IsDerived (start_tableau p) t →
     c < objective_column t → t.cell t.constraints c <ℤ pos 0 → ((i : ℕ) → i < t.constraints → t.cell i c ≤ℤ pos 0) → ⊥
 no_ray p t c bounded canonical derived entering negative unlimited =
     let ys = bounded.prices in
@@ -104,7 +104,7 @@ no_ray p t c bounded canonical derived entering negative unlimited =
     let m : t.constraints ≡ length p.rows = derived.same_constraints in
     let x = ray t c in
     let last : t.basic t.constraints ≡ objective_column t = canonical.last_basic in
-    let solves : Solves (start_table p) x = (derived.solutions x).1 (ray_solves t c canonical (omega arith)) in
+    let solves : Solves (start_tableau p) x = (derived.solutions x).1 (ray_solves t c canonical (omega arith)) in
     let not_negative : (j : ℕ) → j < objective_column t → pos 0 ≤ℤ x j =
     λ j l. spread_not_negative (suc t.constraints) t.basic (ray_number t c) (at_column c (denominator t)) j
     (λ i h e. elim (cases_eq i t.constraints) [

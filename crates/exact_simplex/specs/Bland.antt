@@ -4,7 +4,7 @@ use Rattle.std.specs.Prelude.{◌≡◌, ℕ, zero, suc, ◌+◌, ◌*◌, ◌<�
 use Rattle.std.specs.declared.cmp.Ordering.{Ordering}
 use Rattle.std.specs.declared.cmp.Ordering.TheVariants.{Less, Equal, Greater}
 use Rattle.std.specs.Ordering.{nat_cmp}
-use Rattle.linear_program.specs.Tables.{TableauView, objective_column, side_column}
+use Rattle.linear_program.specs.Tableaux.{TableauView, objective_column, side_column}
 use Rattle.linear_program.specs.Pivots.{first_below, Pivoted, pivoted}
 
 -- the number is below 0
@@ -51,7 +51,7 @@ leaving_below t column (suc i) =
 abbrev pub leaving_row : TableauView → ℕ → Option ℕ
 leaving_row t column = leaving_below t column t.constraints
 
--- one step of the run: it has ended, no row leaves, the pivot overflows, or there is a next table
+-- one step of the run: it has ended, no row leaves, the pivot overflows, or there is a next tableau
 pub data Step : Type 0 where
   ended : Step
   unlimited : Step
@@ -60,7 +60,7 @@ pub data Step : Type 0 where
 
 -- the step that a pivot makes
 abbrev pub step_by_pivot : Pivoted → Step
-step_by_pivot (Pivoted.table u) = Step.next u
+step_by_pivot (Pivoted.tableau u) = Step.next u
 step_by_pivot (Pivoted.overflow i j) = Step.overflow i j
 
 -- the step of an entering column and the row that leaves for it
@@ -77,7 +77,7 @@ step_by_column t None = Step.ended
 abbrev pub bland_step : TableauView → Step
 bland_step t = step_by_column t (entering_column t)
 
--- how a run comes out, with the table that it reached
+-- how a run comes out, with the tableau that it reached
 pub data Run : Type 0 where
   ended : TableauView → Run
   spent : TableauView → Run
@@ -96,7 +96,7 @@ run_on t made further Step.unlimited = Run.unlimited t
 run_on t made further (Step.overflow i j) = Run.overflow made i j t
 run_on t made further (Step.next u) = further u
 
--- the run from a table with `left` pivots allowed and `made` made before
+-- the run from a tableau with `left` pivots allowed and `made` made before
 unfoldable pub run_from : ℕ → ℕ → TableauView → Run
 run_from zero made t = spent_unless_ended t (entering_column t)
 run_from (suc left) made t = run_on t made (λ u. run_from left (made + 1) u) (bland_step t)

@@ -1,9 +1,9 @@
--- The answer of an ended table, and what makes an answer best.
+-- The answer of an ended tableau, and what makes an answer best.
 use Rattle.std.specs.Prelude.{◌≡◌, ℕ, zero, suc, ◌+◌, ◌*◌, ◌<◌, ◌≤◌, ℤ, pos, ◌*ℤ◌, ◌≤ℤ◌, nat_abs, cond, nat_eq, Option, Some, None, List, [], ◌∷◌, ◌++◌, length, slice_index_or}
 use Rattle.ratio_core.specs.Fraction.{Fraction, reduced, whole}
 use Rattle.linear_program.specs.Programmes.{LpView, gain_value}
 use Rattle.linear_program.specs.Duality.{priced_sides, IsFeasible, IsDualFeasible}
-use Rattle.linear_program.specs.Tables.{TableauView, objective_column, side_column}
+use Rattle.linear_program.specs.Tableaux.{TableauView, objective_column, side_column}
 use Rattle.linear_program.specs.declared.certificate.Optimum.{Optimum}
 
 -- the terms 0 to n - 1 of a sequence, as a list
@@ -37,7 +37,7 @@ best_of t = t.cell t.constraints (side_column t)
 abbrev pub price_of : TableauView → ℕ → ℤ
 price_of t k = t.cell t.constraints (t.values + k)
 
--- the values and the certificate of a table
+-- the values and the certificate of a tableau
 abbrev pub optimum_of : TableauView → Optimum
 optimum_of t = record {
   values = first_terms (value_of t) t.values;

@@ -3,10 +3,10 @@
 use listed::NoMemory;
 use thiserror::Error;
 
-/// Why a run was refused. The table is then the one that the run had reached.
+/// Why a run was refused. The tableau is then the one that the run had reached.
 #[derive(Clone, Copy, Debug, PartialEq, Eq, Error)]
 pub enum SolveFault {
-    /// After so many pivots the next one overflows; this cell of the table is the first whose product or difference exceeds 2^127 - 1.
+    /// After so many pivots the next one overflows; this cell of the tableau is the first whose product or difference exceeds 2^127 - 1.
     #[error("after {pivots} pivots the next one overflows at row {row}, column {column}")]
     Overflow { pivots: u64, row: u32, column: u32 },
     /// A column would still gain after so many pivots, which is all that were allowed.

@@ -1,4 +1,4 @@
-//! The exact simplex: Bland's rule over whole-number tables.
+//! The exact simplex: Bland's rule over whole-number tableaux.
 #![tactic(auto)]
 
 mod bland;

@@ -1,4 +1,4 @@
--- A pivot in a row of least ratio keeps what every table of a run keeps.
+-- A pivot in a row of least ratio keeps what every tableau of a run keeps.
 use Rattle.std.proofs.Common.{◌≡◌, ◌≢◌, ℕ, ◌+◌, ◌<◌, ◌≤◌, pos, ◌*ℤ◌, ◌≤ℤ◌, arith, refl, sym, ◌∙◌, ap, inl, inr}
 use Rattle.std.proofs.Math.IntN.{*ℤ-zero, *ℤ_comm}
 use Rattle.std.proofs.lemmas.Int.{ints, by_lt_z}
@@ -7,7 +7,7 @@ use Rattle.linear_program.proofs.Integers.{cancel_none, cancel_same, cancel_posi
 use Rattle.linear_program.proofs.Sums.{combined_sum, same_sum}
 use Rattle.linear_program.proofs.Solutions.{pivot_keeps_solutions}
 use Rattle.linear_program.specs.Sums.{sum_below}
-use Rattle.linear_program.specs.Tables.{TableauView, objective_column, side_column, width, IsReduced, IsPivoted, IsCanonical, IsDerived, HasLeastRatio}
+use Rattle.linear_program.specs.Tableaux.{TableauView, objective_column, side_column, width, IsReduced, IsPivoted, IsCanonical, IsDerived, HasLeastRatio}
 
 -- a reduced row is 0 in the pivot's column
 pub reduced_column : (t u : TableauView) (row column i : ℕ) → column < width t → IsReduced (width t) (t.cell row) (t.cell i) (u.cell i) column → u.cell i column ≡ pos 0

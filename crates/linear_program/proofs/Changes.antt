@@ -9,7 +9,7 @@ use Rattle.std.proofs.lemmas.Bool.{cases_eq, eq-eqb, ne_eqb}
 use Rattle.linear_program.proofs.Pivots.{multipliers_meet, row_divisor_divides, size_zero}
 use Rattle.linear_program.proofs.Searches.{none_passes, nothing_found}
 use Rattle.linear_program.specs.Sizes.{fitting_combination}
-use Rattle.linear_program.specs.Tables.{TableauView}
+use Rattle.linear_program.specs.Tableaux.{TableauView}
 use Rattle.linear_program.specs.Pivots.{own_multiplier, pivot_multiplier, combined_row, row_divisor, stays, changed_row, first_below, cell_overflows, row_overflow}
 
 -- a row with a number in the pivot's column changes
@@ -84,6 +84,6 @@ pub changed_is : (w : ℕ) (pivot_row row made : ℕ → ℤ) (column j : ℕ) �
 changed_is w pivot_row row made column j changes within same =
     rw (changes, same_divisor w made (combined_row pivot_row row column) same, same j within) refl
 
--- two tables that agree everywhere
-pub same_table : (t u : TableauView) → t.values ≡ u.values → t.constraints ≡ u.constraints → ((i j : ℕ) → t.cell i j ≡ u.cell i j) → ((i : ℕ) → t.basic i ≡ u.basic i) → t ≡ u
-same_table t u values constraints cells basics = λ i. record { values = values i; constraints = constraints i; cell = λ a b. cells a b i; basic = λ a. basics a i }
+-- two tableaux that agree everywhere
+pub same_tableau : (t u : TableauView) → t.values ≡ u.values → t.constraints ≡ u.constraints → ((i j : ℕ) → t.cell i j ≡ u.cell i j) → ((i : ℕ) → t.basic i ≡ u.basic i) → t ≡ u
+same_tableau t u values constraints cells basics = λ i. record { values = values i; constraints = constraints i; cell = λ a b. cells a b i; basic = λ a. basics a i }

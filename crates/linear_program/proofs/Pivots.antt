@@ -1,4 +1,4 @@
--- The pivot of a table makes the column basic in the row.
+-- The pivot of a tableau makes the column basic in the row.
 use Rattle.std.proofs.Common.{◌≡◌, ℕ, zero, suc, ◌*◌, ◌/◌, ◌<◌, ℤ, pos, negsuc, neg_ℤ, nat_abs, ◌*ℤ◌, ◌<ℤ◌, false, Option, Some, None, arith, refl, sym, ◌∙◌, ap, inl, inr, ◌⊎◌}
 use Rattle.std.specs.Prelude.{int_div}
 use Prim.Native.Nat.{◌∣◌}
@@ -9,8 +9,8 @@ use Rattle.std.proofs.lemmas.Bool.{cases_eq, eq-eqb, ne_eqb}
 use Rattle.ratio_core.specs.Fraction.{gcd_of}
 use Rattle.ratio_core.proofs.GcdLemmas.{gcd_some, gcd_divides}
 use Rattle.linear_program.proofs.Integers.{times_product, cancel_positive}
-use Rattle.linear_program.specs.Tables.{TableauView, width, IsReduced, IsPivoted, SameSolutions}
-use Rattle.linear_program.specs.Pivots.{column_divisor, own_multiplier, pivot_multiplier, combined_row, row_divisor, stays, changed_row, pivoted_table, Pivoted, pivoted_or, pivoted, first_overflow}
+use Rattle.linear_program.specs.Tableaux.{TableauView, width, IsReduced, IsPivoted, SameSolutions}
+use Rattle.linear_program.specs.Pivots.{column_divisor, own_multiplier, pivot_multiplier, combined_row, row_divisor, stays, changed_row, pivoted_tableau, Pivoted, pivoted_or, pivoted, first_overflow}
 use Rattle.linear_program.proofs.Solutions.{pivot_keeps_solutions}
 
 times_negated : (d q : ℕ) → pos d *ℤ neg_ℤ (pos q) ≡ neg_ℤ (pos (d * q))
@@ -113,8 +113,8 @@ row_is_reduced width pivot_row row column positive =
       | inr some ↦ reduced_change width pivot_row row column positive (ne_eqb (nat_abs (row column)) 0 some)
     ]
 
-pub pivoted_table_is : (t : TableauView) (row column : ℕ) → pos 0 <ℤ t.cell row column → IsPivoted t (pivoted_table t row column) row column
-pivoted_table_is t row column positive = record {
+pub pivoted_tableau_is : (t : TableauView) (row column : ℕ) → pos 0 <ℤ t.cell row column → IsPivoted t (pivoted_tableau t row column) row column
+pivoted_tableau_is t row column positive = record {
   same_values = refl;
   same_constraints = refl;
   kept = λ j l. rw (eq-eqb row row refl) refl;
@@ -123,13 +123,13 @@ pivoted_table_is t row column positive = record {
   stayed = λ i other. rw (ne_eqb i row other) refl;
 }
 
-pivoted_table_from : (u v : TableauView) (o : Option (ℕ × ℕ)) → pivoted_or u o ≡ Pivoted.table v → u ≡ v
-pivoted_table_from u v None h = cc
-pivoted_table_from u v (Some place) h = cc
+pivoted_tableau_from : (u v : TableauView) (o : Option (ℕ × ℕ)) → pivoted_or u o ≡ Pivoted.tableau v → u ≡ v
+pivoted_tableau_from u v None h = cc
+pivoted_tableau_from u v (Some place) h = cc
 
-pub pivoted_is : (t u : TableauView) (row column : ℕ) → pos 0 <ℤ t.cell row column → pivoted t row column ≡ Pivoted.table u → IsPivoted t u row column
+pub pivoted_is : (t u : TableauView) (row column : ℕ) → pos 0 <ℤ t.cell row column → pivoted t row column ≡ Pivoted.tableau u → IsPivoted t u row column
 pivoted_is t u row column positive h =
-    rw (← pivoted_table_from (pivoted_table t row column) u (first_overflow t row column) h) (pivoted_table_is t row column positive)
+    rw (← pivoted_tableau_from (pivoted_tableau t row column) u (first_overflow t row column) h) (pivoted_tableau_is t row column positive)
 
-pub pivoted_keeps_solutions : (t u : TableauView) (row column : ℕ) → row < t.constraints → pos 0 <ℤ t.cell row column → pivoted t row column ≡ Pivoted.table u → SameSolutions t u
+pub pivoted_keeps_solutions : (t u : TableauView) (row column : ℕ) → row < t.constraints → pos 0 <ℤ t.cell row column → pivoted t row column ≡ Pivoted.tableau u → SameSolutions t u
 pivoted_keeps_solutions t u row column within positive h = pivot_keeps_solutions t u row column (omega arith) (pivoted_is t u row column positive h)

@@ -5,7 +5,7 @@ use Rattle.std.proofs.lemmas.Int.{ints}
 use Rattle.std.proofs.lemmas.Bool.{cases_eq}
 use Rattle.linear_program.proofs.Integers.{cancel_none}
 use Rattle.linear_program.proofs.Sums.{combined_sum, same_sum}
-use Rattle.linear_program.specs.Tables.{TableauView, width, row_sum, SameSolutions, IsReduced, IsPivoted}
+use Rattle.linear_program.specs.Tableaux.{TableauView, width, row_sum, SameSolutions, IsReduced, IsPivoted}
 
 kept_sum : (t u : TableauView) (row column : ℕ) (x : ℕ → ℤ) → IsPivoted t u row column → row_sum u row x ≡ row_sum t row x
 kept_sum t u row column x step =

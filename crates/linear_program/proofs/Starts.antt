@@ -1,4 +1,4 @@
--- The start table keeps what every table of a run keeps, and its rows say the programme.
+-- The start tableau keeps what every tableau of a run keeps, and its rows say the programme.
 use Rattle.std.proofs.Common.{◌≡◌, ◌≢◌, ℕ, suc, ◌+◌, ◌<◌, ◌≤◌, ℤ, pos, ◌+ℤ◌, ◌*ℤ◌, ◌≤ℤ◌, length, [], inl, inr, arith, refl, sym, ◌∙◌, ap}
 use Rattle.std.proofs.Math.IntN.{*ℤ-zero, *ℤ_comm}
 use Rattle.std.proofs.lemmas.Int.{ints}
@@ -7,8 +7,8 @@ use Rattle.std.proofs.lemmas.Bool.{cases_lt, eq-eqb, ne_eqb, lt-ltb, le-ltb}
 use Rattle.linear_program.proofs.Sums.{same_sum, single_sum, split_sum}
 use Rattle.linear_program.specs.Sums.{sum_below}
 use Rattle.linear_program.specs.Programmes.{LpView, IsRow, IsLp, row_at}
-use Rattle.linear_program.specs.Tables.{row_sum, IsCanonical, IsDerived}
-use Rattle.linear_program.specs.Starts.{value_cell, start_side, start_cell, start_table}
+use Rattle.linear_program.specs.Tableaux.{row_sum, IsCanonical, IsDerived}
+use Rattle.linear_program.specs.Starts.{value_cell, start_side, start_cell, start_tableau}
 
 one_times : (a : ℤ) → pos 1 *ℤ a ≡ a
 one_times a = omega (arith, ints)
@@ -56,7 +56,7 @@ start_beyond p i j past =
           ) refl
     ]
 
-start_basic : (p : LpView) (i : ℕ) → i ≤ length p.rows → (start_table p).basic i ≡ p.columns + i
+start_basic : (p : LpView) (i : ℕ) → i ≤ length p.rows → (start_tableau p).basic i ≡ p.columns + i
 start_basic p i inside = rw (le-ltb (length p.rows) i inside) refl
 
 side_there : (p : LpView) (i : ℕ) → i < length p.rows → start_side p i ≡ (row_at p i).rhs
@@ -71,7 +71,7 @@ side_not_negative p lp i within =
       | inr one ↦ rw one (omega (arith, ints))
     ]
 
-pub start_canonical : (p : LpView) → IsLp p → IsCanonical (start_table p)
+pub start_canonical : (p : LpView) → IsLp p → IsCanonical (start_tableau p)
 start_canonical p lp = record {
   last_basic = start_basic p (length p.rows) (omega arith);
   basic_within = λ i l. rw (start_basic p i (omega arith)) (omega arith);
@@ -80,7 +80,7 @@ start_canonical p lp = record {
   sides = λ i l. rw (start_last p i (omega arith), side_there p i l) (side_not_negative p lp i l);
 }
 
-pub start_derived : (p : LpView) → IsDerived (start_table p) (start_table p)
+pub start_derived : (p : LpView) → IsDerived (start_tableau p) (start_tableau p)
 start_derived p = record {
   same_values = refl;
   same_constraints = refl;
@@ -95,7 +95,7 @@ start_derived p = record {
 
 -- a row of the start on a vector: the programme's row, the row's own number, and the right side times the last number
 pub start_sum : (p : LpView) (i : ℕ) (x : ℕ → ℤ) → i ≤ length p.rows →
-    row_sum (start_table p) i x ≡
+    row_sum (start_tableau p) i x ≡
     sum_below p.columns (λ j. value_cell p i j *ℤ x j) +ℤ x (p.columns + i) +ℤ start_side p i *ℤ x (p.columns + length p.rows + 1)
 start_sum p i x inside =
     let n = p.columns in

@@ -6,7 +6,7 @@ use Rattle.std.proofs.lemmas.Bool.{cases_eq, eq-eqb, ne_eqb}
 use Rattle.linear_program.proofs.Integers.{times_sum, times_product, positive_times}
 use Rattle.linear_program.proofs.Sums.{sum_added, same_sum, single_sum}
 use Rattle.linear_program.specs.Sums.{sum_below}
-use Rattle.linear_program.specs.Tables.{TableauView, objective_column, width, Solves, IsCanonical}
+use Rattle.linear_program.specs.Tableaux.{TableauView, objective_column, width, Solves, IsCanonical}
 
 -- the number at one column, and 0 elsewhere
 abbrev pub at_column : ℕ → ℤ → ℕ → ℤ
@@ -104,7 +104,7 @@ product_out (suc n) k g l =
     times_one : (a : ℤ) → a *ℤ pos 1 ≡ a
     times_one a = omega (arith, ints)
 
--- a vector that is balanced in each row by its number at the row's basic column solves the table
+-- a vector that is balanced in each row by its number at the row's basic column solves the tableau
 pub balanced_solves : (t : TableauView) (c : ℕ) (z : ℤ) (f : ℕ → ℤ) → IsCanonical t → c < width t →
     ((k : ℕ) → k ≤ t.constraints → t.cell k c *ℤ z +ℤ t.cell k (t.basic k) *ℤ f k ≡ pos 0) →
     Solves t (spread (suc t.constraints) t.basic f (at_column c z))

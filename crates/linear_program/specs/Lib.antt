@@ -2,7 +2,7 @@ pub mod Sums
 pub mod Programmes
 pub mod Duality
 pub mod Certificates
-pub mod Tables
+pub mod Tableaux
 pub mod Starts
 pub mod Sizes
 pub mod Pivots

@@ -1,9 +1,9 @@
--- The pivot of a table, in whole numbers without bound, with the cell at which it overflows 2^127 - 1.
+-- The pivot of a tableau, in whole numbers without bound, with the cell at which it overflows 2^127 - 1.
 -- Source: the fraction-free simplex, each row kept without a common divisor.
 use Rattle.std.specs.Prelude.{ℕ, zero, suc, ◌+◌, ℤ, pos, ◌-ℤ◌, ◌*ℤ◌, nat_abs, int_div, Bool, false, cond, nat_eq, Option, Some, None, is_none}
 use Rattle.ratio_core.specs.Fraction.{gcd_of}
 use Rattle.linear_program.specs.Sizes.{fitting_combination}
-use Rattle.linear_program.specs.Tables.{TableauView, width}
+use Rattle.linear_program.specs.Tableaux.{TableauView, width}
 
 -- the first of two answers
 abbrev pub first_some : {A : Type 0} → Option A → Option A → Option A
@@ -46,9 +46,9 @@ changed_row width pivot_row row column j =
     cond (stays row column) (row j)
     (int_div (combined_row pivot_row row column j) (pos (row_divisor width (combined_row pivot_row row column))))
 
--- the table after the pivot
-abbrev pub pivoted_table : TableauView → ℕ → ℕ → TableauView
-pivoted_table t row column = record {
+-- the tableau after the pivot
+abbrev pub pivoted_tableau : TableauView → ℕ → ℕ → TableauView
+pivoted_tableau t row column = record {
   values = t.values;
   constraints = t.constraints;
   cell = λ i. cond (nat_eq i row) (t.cell i) (changed_row (width t) (t.cell row) (t.cell i) column);
@@ -76,20 +76,20 @@ rows_overflow width pivot_row cell row column (suc i) =
     first_some (rows_overflow width pivot_row cell row column i)
     (in_row i (cond (nat_eq i row) None (row_overflow width pivot_row (cell i) column)))
 
--- the first cell at which the pivot of a table overflows
+-- the first cell at which the pivot of a tableau overflows
 abbrev pub first_overflow : TableauView → ℕ → ℕ → Option (ℕ × ℕ)
 first_overflow t row column = rows_overflow (width t) (t.cell row) t.cell row column (t.constraints + 1)
 
--- what a pivot makes of a table, or the cell at which it overflows
+-- what a pivot makes of a tableau, or the cell at which it overflows
 pub data Pivoted : Type 0 where
-  table : TableauView → Pivoted
+  tableau : TableauView → Pivoted
   overflow : ℕ → ℕ → Pivoted
 
--- the table, unless there is a place at which the pivot overflows
+-- the tableau, unless there is a place at which the pivot overflows
 abbrev pub pivoted_or : TableauView → Option (ℕ × ℕ) → Pivoted
-pivoted_or u None = Pivoted.table u
+pivoted_or u None = Pivoted.tableau u
 pivoted_or u (Some place) = Pivoted.overflow place.0 place.1
 
 -- the pivot on a row and a column
 abbrev pub pivoted : TableauView → ℕ → ℕ → Pivoted
-pivoted t row column = pivoted_or (pivoted_table t row column) (first_overflow t row column)
+pivoted t row column = pivoted_or (pivoted_tableau t row column) (first_overflow t row column)

@@ -43,7 +43,7 @@ pub record IsRow (columns : ℕ) (row : RowView) : Type 0 where
   pub small : All (λ c. nat_abs c.1 < 2 ^ 127) row.cells
   pub side : (row.rhs ≡ pos 0) ⊎ (row.rhs ≡ pos 1)
 
--- a programme: one gain for each column, sizes of at most 2^127 - 1, rows as above, and a table whose columns have 32-bit numbers
+-- a programme: one gain for each column, sizes of at most 2^127 - 1, rows as above, and a tableau whose columns have 32-bit numbers
 pub record IsLp (p : LpView) : Type 0 where
   pub rows : All (IsRow p.columns) p.rows
   pub gains : length p.gain ≡ p.columns

@@ -1,8 +1,8 @@
--- The table that a programme starts from: its rows, a slack for each, the objective, and the right-hand sides.
+-- The tableau that a programme starts from: its rows, a slack for each, the objective, and the right-hand sides.
 use Rattle.std.specs.Prelude.{◌≡◌, ℕ, ◌+◌, ℤ, pos, neg_ℤ, length, cond, nat_eq, nat_lt}
 use Rattle.linear_program.specs.Programmes.{LpView, IsLp, cell_at, row_at, gain_at}
 use Rattle.linear_program.specs.Duality.{IsBounded}
-use Rattle.linear_program.specs.Tables.{TableauView}
+use Rattle.linear_program.specs.Tableaux.{TableauView}
 
 -- the start's cells in the programme's columns: its rows, and below them minus the gain
 abbrev pub value_cell : LpView → ℕ → ℕ → ℤ
@@ -20,18 +20,18 @@ start_cell p i j =
     (cond (nat_eq j (p.columns + i)) (pos 1)
     (cond (nat_eq j (p.columns + length p.rows + 1)) (start_side p i) (pos 0))))
 
--- the start table, in which each row's own column is basic
-abbrev pub start_table : LpView → TableauView
-start_table p = record {
+-- the start tableau, in which each row's own column is basic
+abbrev pub start_tableau : LpView → TableauView
+start_tableau p = record {
   values = p.columns;
   constraints = length p.rows;
   cell = start_cell p;
   basic = λ i. cond (nat_lt (length p.rows) i) 0 (p.columns + i);
 }
 
--- the table is the start of a bounded programme
+-- the tableau is the start of a bounded programme
 pub record IsBoundedStart (t : TableauView) : Type 0 where
   pub programme : LpView
   pub lp : IsLp programme
   pub bounded : IsBounded programme
-  pub start : t ≡ start_table programme
+  pub start : t ≡ start_tableau programme

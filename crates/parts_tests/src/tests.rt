@@ -8,4 +8,4 @@ mod optima;
 mod periods;
 mod programmes;
 mod ratios;
-mod tables;
+mod tableaux;

@@ -1,7 +1,7 @@
 -- What a plan is, and why a platform has none.
 use Rattle.std.specs.Prelude.{◌≡◌, ℕ, List, ◌++◌, codes, decimal, Option, Some, None, option_and_then, Result, Ok, Err}
 use Rattle.platform_file.specs.Ticks.{TimedView}
-use Rattle.linear_program.specs.Starts.{start_table}
+use Rattle.linear_program.specs.Starts.{start_tableau}
 use Rattle.linear_program.specs.declared.certificate.Optimum.{Optimum}
 use Rattle.exact_simplex.specs.Answers.{answer_of}
 use Rattle.exact_simplex.specs.Bland.{bland_run}
@@ -44,7 +44,7 @@ period_fault table.NoMemory = PlanFault.NoMemory
 
 -- the answer at the end of the run by Bland's rule on a platform's programme, with so many pivots allowed
 abbrev pub solution_of : ℕ → TimedView → Option (Result Optimum SolveFault)
-solution_of limit t = answer_of limit (bland_run limit (start_table (tasking_programme t)))
+solution_of limit t = answer_of limit (bland_run limit (start_tableau (tasking_programme t)))
 
 -- the fault of a scale
 abbrev pub fault_of_scale : Result Scale TableFault → Option PlanFault

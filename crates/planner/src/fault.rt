@@ -8,7 +8,7 @@ use std::fmt;
 /// Why a platform isn't planned. `Display` writes the line that names the fault, without a line feed.
 #[derive(Clone, Copy, Debug, PartialEq, Eq)]
 pub enum PlanFault {
-    /// After so many pivots the next one exceeds 2^127 - 1 in size, first at this cell of the table.
+    /// After so many pivots the next one exceeds 2^127 - 1 in size, first at this cell of the tableau.
     Pivot {
         pivots: u64,
         row: u32,

@@ -100,7 +100,7 @@ fn table_over(
     ensures ports { IfOk result (KeepsPorts timed.now Tasking) }
     ensures rate { IfOk result
         (λ table. (p : IsPoint timed.now values.now)
-            → pos table.tasks *ℤ pos p.den ≡ gain_value (tasking_programme timed.now) p.point *ℤ pos table.period) }
+        → pos table.tasks *ℤ pos p.den ≡ gain_value (tasking_programme timed.now) p.point *ℤ pos table.period) }
     ensures valid { IfOk result (λ table. (n : ℕ) → IsValid timed.now Tasking (table_schedule timed.now Tasking table n)) }
     ensures completes { IfOk result
         (λ table. (n : ℕ) → (n - table.depth) * table.tasks ≤ completed timed.now Tasking (table_schedule timed.now Tasking table n)) }
@@ -141,7 +141,7 @@ pub fn table_of(
     ensures ports { IfOk result (KeepsPorts timed.now series) }
     ensures rate { IfOk result
         (λ table. (p : IsPoint timed.now values.now)
-            → pos table.tasks *ℤ pos p.den ≡ gain_value (tasking_programme timed.now) p.point *ℤ pos table.period) }
+        → pos table.tasks *ℤ pos p.den ≡ gain_value (tasking_programme timed.now) p.point *ℤ pos table.period) }
     ensures valid { IfOk result (λ table. (n : ℕ) → IsValid timed.now series (table_schedule timed.now series table n)) }
     ensures completes { IfOk result
         (λ table. (n : ℕ) → (n - table.depth) * table.tasks ≤ completed timed.now series (table_schedule timed.now series table n)) }

@@ -21,7 +21,7 @@ use tasking_program::{prices_bound_rates, programmes_are_bounded, tasking_lp};
 /// and list of operations, and which its own schedules reach but for the tasks of the first `depth` periods. The table is that of the
 /// solution at the end of the run by Bland's rule.
 ///
-/// Takes the pivots of the simplex, each in a pass over the table of the programme, and then the time of `table_of`.
+/// Takes the pivots of the simplex, each in a pass over the tableau of the programme, and then the time of `table_of`.
 ///
 /// # Errors
 ///

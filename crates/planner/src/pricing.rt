@@ -4,7 +4,7 @@ ghost use Rattle.std.specs.Prelude.{◌≡◌, ◌≢◌, ◌*◌, nat_abs, Err,
 ghost use Rattle.schedule_model.specs.declared.schedule.Series.TheVariants.{Tasking};
 ghost use Rattle.schedule_model.specs.Throughput.{IsUpperRate};
 ghost use Rattle.linear_program.specs.Duality.{IsBounded};
-ghost use Rattle.linear_program.specs.Starts.{start_table};
+ghost use Rattle.linear_program.specs.Starts.{start_tableau};
 ghost use Rattle.exact_simplex.specs.Answers.{answer_of};
 ghost use Rattle.exact_simplex.specs.Bland.{bland_run};
 ghost use Rattle.exact_simplex.specs.Optima.{IsOptimal};
@@ -22,7 +22,7 @@ use tasking_program::{prices_bound_rates, programmes_are_bounded, tasking_lp};
 /// Solves a bounded programme over a table of whole rows.
 pub(crate) fn solved(alloc: Global, lp: &Lp, limit: u64) -> Result<Optimum, SolveFault>
     requires { IsBounded lp.now }
-    ensures exact { result ≢ Err SolveFault.NoMemory → answer_of limit (bland_run limit (start_table lp.now)) ≡ Some result }
+    ensures exact { result ≢ Err SolveFault.NoMemory → answer_of limit (bland_run limit (start_tableau lp.now)) ≡ Some result }
     ensures optimal { IfOk result (IsOptimal lp.now) }
 {
     lp.known();
@@ -33,7 +33,7 @@ pub(crate) fn solved(alloc: Global, lp: &Lp, limit: u64) -> Result<Optimum, Solv
 /// The certificate of a platform's best rate: `best / scale` tasks per tick are reached by a point of the programme, and exceeded by no
 /// schedule of any resolution, length and list of operations.
 ///
-/// Takes the pivots of the simplex, each in a pass over the table.
+/// Takes the pivots of the simplex, each in a pass over the tableau.
 ///
 /// # Errors
 ///

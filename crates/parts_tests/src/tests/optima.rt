@@ -1,4 +1,4 @@
-//! Programmes that are solved over a table of whole rows, as worked out by hand.
+//! Programmes that are solved over a tableau of whole rows, as worked out by hand.
 
 ghost use Rattle.std.specs.Prelude.{◌≡◌};
 ghost use Rattle.linear_program.specs.Duality.{IsBounded};

@@ -4,7 +4,7 @@ use crate::tests::comparing::{fails_at, holds};
 use crate::tests::models::{halves, listed_of};
 use linear_program::{
     Certificate, Lp, Optimum, PivotFault, Row, combined, pivots_keep_solutions, prices_bound_gains,
-    runs_keep_tables,
+    runs_keep_tableaux,
 };
 use ratio_core::Ratio;
 use std::alloc::Global;
@@ -31,7 +31,7 @@ fn keeps_a_programme(rt: HostRuntime) -> Result<(), Fail> {
 fn cites_laws() {
     prices_bound_gains();
     pivots_keep_solutions();
-    runs_keep_tables();
+    runs_keep_tableaux();
 }
 
 fn certificate(alloc: Global) -> Result<Certificate, Fail> {

@@ -1,14 +1,14 @@
 use Rattle.std.proofs.Common.{rules, ◌≡◌, ◌-◌, arith, SFits}
 use Rattle.std.specs.Int.{w128}
 use Rattle.std.proofs.lemmas.Int.{ints, to_z-of_z}
-use Rattle.linear_program.specs.Tables.{objective_column, side_column}
+use Rattle.linear_program.specs.Tableaux.{objective_column, side_column}
 use Rattle.exact_simplex.specs.Optima.{scale_of, best_of}
 use Rattle.exact_simplex.proofs.Ends.{scale_positive}
 use Rattle.exact_simplex.proofs.solving.optimum.Goals as goal
 
 pub new-requires : goal.new-requires
 new-requires g c =
-    let t = g.T.Tableau.table c.args.table.now in
+    let t = g.T.Tableau.tableau c.args.tableau.now in
     let scale_fits : SFits w128 c.cell.result = search rules in
     let best_fits : SFits w128 c.cell-2.result = search rules in
     let last : c.rows-last.result - 1 ≡ t.constraints = omega (arith, c.rows-last.ensures) in

@@ -12,7 +12,7 @@ small (negsuc n) fits h = absurd (omega (arith, ints))
 
 pub loop-row-preserved : goal.loop-row-preserved
 loop-row-preserved g c =
-    let t = g.T.Tableau.table c.args.table.now in
+    let t = g.T.Tableau.tableau c.args.tableau.now in
     let row = c.loop-row.row in
     let fits : SFits w128 c.cell.result = search rules in
     let within : row < t.constraints = omega (arith, c.rows-last.ensures, c.loop-row-test.true) in

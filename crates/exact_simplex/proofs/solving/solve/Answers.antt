@@ -5,7 +5,7 @@ use Rattle.exact_simplex.proofs.solving.solve.Goals as goal
 
 pub optimum-requires : goal.optimum-requires
 optimum-requires g c =
-    let t = g.T.Tableau.table c.run.new.table in
+    let t = g.T.Tableau.tableau c.run.new.tableau in
     let e = c.in_ok-run.ensures in
     record {
       canonical = e.canonical;
@@ -15,7 +15,7 @@ optimum-requires g c =
 
 pub returns-clause-optimal : goal.returns-clause-optimal
 returns-clause-optimal g c p lp start =
-    let t = g.T.Tableau.table c.run.new.table in
+    let t = g.T.Tableau.tableau c.run.new.tableau in
     let e = c.in_ok-run.ensures in
     rw c.in_ok-optimum.ensures (ended_is_optimal p t lp e.canonical (rw start at e.derived) e.gainless)
 

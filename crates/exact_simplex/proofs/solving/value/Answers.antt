@@ -11,19 +11,19 @@ some_size (negsuc n) h = omega arith
 
 pub cell-requires-clause-row : goal.cell-requires-clause-row
 cell-requires-clause-row g c =
-    let t = g.T.Tableau.table c.args.table.now in
+    let t = g.T.Tableau.tableau c.args.tableau.now in
     let there = row_there t.basic t.constraints c.args.column c.in-Some.row (sym c.in-Some.ensures) in
     omega (arith, there.0)
 
 pub cell-requires-in-Some-clause-row : goal.cell-requires-in-Some-clause-row
 cell-requires-in-Some-clause-row g c =
-    let t = g.T.Tableau.table c.args.table.now in
+    let t = g.T.Tableau.tableau c.args.tableau.now in
     let there = row_there t.basic t.constraints c.args.column c.in-Some.row (sym c.in-Some.ensures) in
     omega (arith, there.0)
 
 pub new-requires : goal.new-requires
 new-requires g c =
-    let t = g.T.Tableau.table c.args.table.now in
+    let t = g.T.Tableau.tableau c.args.tableau.now in
     let there = row_there t.basic t.constraints c.args.column c.in-Some.row (sym c.in-Some.ensures) in
     let inside : c.in-Some.row ≤ t.constraints = omega (arith, there.0) in
     let own : pos 0 <ℤ t.cell c.in-Some.row c.args.column = rw there.1 at (c.requires.canonical.own_positive c.in-Some.row inside) in

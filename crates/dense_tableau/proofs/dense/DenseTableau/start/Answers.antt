@@ -1,8 +1,8 @@
 use Rattle.std.proofs.Common.{◌≡◌, ℕ, ◌+◌, ◌*◌, ◌++◌, take, drop, length, slice_index_or, arith, refl, sym, ◌∙◌, ap, inl, inr}
 use Rattle.std.proofs.lemmas.Bool.{cases_lt, lt-ltb, le-ltb}
 use Rattle.std.proofs.lemmas.List.{get_or_past, with_items_is}
-use Rattle.linear_program.specs.Starts.{start_cell, start_table}
-use Rattle.linear_program.proofs.Changes.{same_table}
+use Rattle.linear_program.specs.Starts.{start_cell, start_tableau}
+use Rattle.linear_program.proofs.Changes.{same_tableau}
 use Rattle.linear_program.proofs.Starts.{start_beyond}
 use Rattle.dense_tableau.specs.Flat.{cell_of}
 use Rattle.dense_tableau.proofs.Flat.{cell_beyond, no_row}
@@ -33,9 +33,9 @@ returns c =
             | inr beyond ↦ no_row w (m + 1) new i j size beyond ∙ sym (rw (lt-ltb m i (omega (arith, beyond))) refl)
           ]
     ]) in
-    let basic : (i : ℕ) → slice_index_or basics i 0 ≡ (start_table p).basic i =
+    let basic : (i : ℕ) → slice_index_or basics i 0 ≡ (start_tableau p).basic i =
     λ i. elim (cases_lt m i) [
       | inl past ↦ get_or_past basics i 0 (omega (arith, c.in_ok-basics.ensures.length, past)) ∙ sym (rw (lt-ltb m i past) refl)
       | inr inside ↦ c.in_ok-basics.ensures.basics i inside ∙ sym (rw (le-ltb m i inside) refl)
     ] in
-    same_table _ (start_table p) columns rows place basic
+    same_tableau _ (start_tableau p) columns rows place basic

@@ -1,8 +1,8 @@
--- Tables of whole numbers with a basic column for each row, and what a pivot keeps of them.
+-- Tableaux of whole numbers with a basic column for each row, and what a pivot keeps of them.
 use Rattle.std.specs.Prelude.{◌≡◌, ◌≢◌, ℕ, ◌+◌, ◌<◌, ◌≤◌, ℤ, pos, ◌-ℤ◌, ◌*ℤ◌, ◌≤ℤ◌, ◌<ℤ◌}
 use Rattle.linear_program.specs.Sums.{sum_below}
 
--- a table for a programme of `values` columns and `constraints` rows: the last row is the objective's,
+-- a tableau for a programme of `values` columns and `constraints` rows: the last row is the objective's,
 -- and behind the columns of the values and the slacks stand the objective's column and the right-hand sides
 pub record TableauView : Type 0 where
   pub values : ℕ
@@ -30,7 +30,7 @@ row_sum t row vector = sum_below (width t) (λ j. t.cell row j *ℤ vector j)
 abbrev pub Solves : TableauView → (ℕ → ℤ) → Type 0
 Solves t vector = (row : ℕ) → row ≤ t.constraints → row_sum t row vector ≡ pos 0
 
--- two tables have the same solutions
+-- two tableaux have the same solutions
 abbrev pub SameSolutions : TableauView → TableauView → Type 0
 SameSolutions t u = (vector : ℕ → ℤ) → (Solves t vector → Solves u vector) × (Solves u vector → Solves t vector)
 
@@ -53,7 +53,7 @@ pub record IsPivoted (t u : TableauView) (row column : ℕ) : Type 0 where
   pub entered : u.basic row ≡ column
   pub stayed : (i : ℕ) → i ≢ row → u.basic i ≡ t.basic i
 
--- what every table of a run keeps: each row has its own basic column, in which it is positive and every other row is 0;
+-- what every tableau of a run keeps: each row has its own basic column, in which it is positive and every other row is 0;
 -- the objective's row keeps the objective's column; no right-hand side is below 0
 pub record IsCanonical (t : TableauView) : Type 0 where
   pub last_basic : t.basic t.constraints ≡ objective_column t
@@ -62,7 +62,7 @@ pub record IsCanonical (t : TableauView) : Type 0 where
   pub alone : (i k : ℕ) → i ≤ t.constraints → k ≤ t.constraints → k ≢ i → t.cell k (t.basic i) ≡ pos 0
   pub sides : (i : ℕ) → i < t.constraints → pos 0 ≤ℤ t.cell i (side_column t)
 
--- `t` comes from the table `s`: each row is the combination of the rows of `s` with its own cells behind the values as factors,
+-- `t` comes from the tableau `s`: each row is the combination of the rows of `s` with its own cells behind the values as factors,
 -- and the solutions are those of `s`
 pub record IsDerived (s t : TableauView) : Type 0 where
   pub same_values : t.values ≡ s.values

@@ -1,6 +1,6 @@
 use Rattle.linear_program.proofs.Canonical.{canonical_kept, derived_kept}
 use Rattle.linear_program.proofs.Starts.{start_canonical, start_derived}
-use Rattle.linear_program.proofs.laws.runs_keep_tables.Goals as goal
+use Rattle.linear_program.proofs.laws.runs_keep_tableaux.Goals as goal
 
 pub returns-clause-start : goal.returns-clause-start
 returns-clause-start c = λ p lp. (start_canonical p lp, start_derived p)
