@@ -1,16 +1,17 @@
 -- What a response of the program says of each status.
-use Rattle.std.proofs.Common.{◌≡◌, ◌∙◌, ℕ, List, Option, Some, None, ◌⊎◌, inl, inr, refl, sym, ap, subst}
+use Rattle.std.proofs.Common.{◌≡◌, ◌∙◌, ◌≤◌, ℕ, List, Option, Some, None, ◌⊎◌, inl, inr, refl, sym, ap, subst, arith}
 use Rattle.outside_io.specs.Faults.{Rose}
 use Rattle.outside_io.specs.Files.{Told, untold, absent, contents, FilesView, MayFail}
 use Rattle.planner.specs.declared.fault.PlanFault.TheVariants as plans
 use Rattle.steady_top.specs.declared.status.Status.{Status}
 use Rattle.steady_top.specs.declared.status.Status.TheVariants as status
-use Rattle.steady_top.specs.Refusals.{Reason, no_platform, no_ticks, no_plan, long_certificate, certificate_line, negative_price, uncovered_column, passed_value, check_overflow, long_plan, plan_line, long_operations, breach, Refusal, usage, refused, cannot_read, no_memory, reason_status, status_of, error_line}
+use Rattle.steady_top.specs.Refusals.{Reason, no_platform, no_ticks, no_plan, long_certificate, certificate_line, negative_price, uncovered_column, passed_value, check_overflow, long_plan, plan_line, long_operations, breach, Refusal, usage, refused, cannot_read, no_memory, reason_status, files_for, status_of, error_line}
 use Rattle.command_words.specs.Words.{Command, plan, prices, check, audit, command_of}
 use Rattle.platform_file.specs.Ticks.{TimedView}
-use Rattle.steady_top.specs.Outcomes.{first_name, second_name, Outcome, refuses, IsText, IsRefusal, work_of, outcome_for, outcome_of_command, outcome_of}
+use Rattle.steady_top.specs.Outcomes.{first_name, second_name, files_of, Outcome, refuses, IsText, IsRefusal, work_of, outcome_for, outcome_of_command, outcome_of}
 use Rattle.steady_top.proofs.Audited.{text_or_refusal, print_or_refusal, one_status}
-use Rattle.steady_top.specs.Answers.{MayBe, IsToldAs, AreNamesToldAs, AreToldAs, ComesTo, Opens, IsSecondUnread, IsCauseFor, IsCause, Call, IsPrinted, IsRefused, IsRefusedWith, IsCutShort, IsCalm, IsResponse}
+use Rattle.steady_top.specs.Answers.{MayBe, IsToldAs, AreNamesToldAs, AreToldAs, ComesTo, Opens, IsSecondUnread, IsOutOfMemory, IsCauseFor, IsCause, Call, IsPrinted, IsRefused, IsRefusedWith, IsCutShort, IsCalm, Ends, IsResponse, IsOneOf}
+use Rattle.steady_top.proofs.Works.{some_file}
 use Rattle.steady_top.specs.Ends.{IsEnd}
 
 -- the statuses of refusals of what was read
@@ -158,6 +159,32 @@ cause_is_outcome words before after usage calm cause = inr (λ holds told. refus
 cause_is_outcome words before after (refused reason) calm cause = cause_for_is_outcome words before after (refused reason) calm cause.command cause.given cause.holds
 cause_is_outcome words before after (cannot_read name) calm cause = cause_for_is_outcome words before after (cannot_read name) calm cause.command cause.given cause.holds
 cause_is_outcome words before after no_memory calm cause = inl refl
+
+-- the command opens two files
+two_files : (command : Command) (first second : List ℕ) → Opens command first second → 2 ≤ files_of command
+two_files (plan name series pivots) first second pair = absurd pair
+two_files (prices name series pivots) first second pair = absurd pair
+two_files (check name certificate series) first second pair = omega arith
+two_files (audit name other periods) first second pair = omega arith
+
+-- where a refusal has its cause, memory may have run out for its line
+out_of_memory : (words : List (List ℕ)) (before after : FilesView) (refusal : Refusal) → IsCause words before after refusal → IsCause words before after no_memory
+out_of_memory words before after usage cause = inl cause.1
+out_of_memory words before after (refused reason) cause =
+    inr (record { command = cause.command; given = cause.given; holds = record { count = files_for reason; few = cause.holds.few; opens = cause.holds.opens } })
+out_of_memory words before after (cannot_read name) cause = inr (record { command = cause.command; given = cause.given; holds = of_unread cause.holds })
+  where
+    of_unread : IsCauseFor cause.command before after (cannot_read name) → IsOutOfMemory cause.command before after
+    of_unread (inl first) = record { count = 1; few = some_file cause.command; opens = first.opens }
+    of_unread (inr second) = record { count = 2; few = two_files cause.command second.first name second.pair; opens = second.opens }
+out_of_memory words before after no_memory cause = cause
+
+-- a refusal whose line was to be written, or that of memory that ran out
+pub refused_response : (call : Call) (refusal : Refusal) (result : Status) → IsCause call.words call.before call.after refusal →
+    IsOneOf refusal no_memory (λ due. Ends (status_of due) (error_line due) call.out_before call.out_after result) → IsResponse call result
+refused_response call refusal result cause (inl ends) = inr (record { refusal = refusal; cause = cause; ends = ends })
+refused_response call refusal result cause (inr ends) =
+    inr (record { refusal = no_memory; cause = out_of_memory call.words call.before call.after refusal cause; ends = ends })
 
 module _ (call : Call) (result : Status) (response : IsResponse call result) where
   done : result ≡ status.Done → IsPrinted call

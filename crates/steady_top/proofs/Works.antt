@@ -39,7 +39,7 @@ use Rattle.command_words.specs.Words.{Command, plan, prices, check, audit}
 use Rattle.steady_top.specs.Audits.{IsReason, IsAudit}
 use Rattle.steady_top.specs.Outcomes.{first_name, second_name, files_of, Outcome, prints, plans as plans_of, audits, refuses, IsRefusal, with_timed, with_platform, with_file, planned, priced, plan_of, certificate_for, judged, judged_reading, check_of_file, most_plan_bytes, audit_of_file, work_of}
 use Rattle.steady_top.specs.Answers.{MayBe, ComesTo, AreOpened, IsMade, Opens, IsRefusedFor, IsSecondUnread, IsCauseFor}
-use Rattle.steady_top.specs.Planned.{UnreadCause, IsUnread, IsPlatformRead, IsFileFault, PlatformCause, IsPlatformFault, IsSecondRead, SecondCause, IsSecondFault, MayRefuse, IsBestPlan, IsBestPrices, IsProved, IsJudged, check_of_bytes, IsCheck, IsChecked, IsAuditFault, IsAudited}
+use Rattle.steady_top.specs.Planned.{IsUnread, IsPlatformRead, IsPlatformFault, IsSecondRead, IsSecondFault, MayRefuse, IsBestPlan, IsBestPrices, IsProved, check_of_bytes, IsChecked, IsAuditFault, IsAudited}
 
 -- the bytes that were read may be what is told
 pub read_may_be : (told : Told) (bytes : List ℕ) → MayHold told bytes → MayBe told (Some bytes)
@@ -74,7 +74,7 @@ raised_twice : (before middle after : ℕ) → middle ≡ raised before 1 → af
 raised_twice before middle after e f = f ∙ rw e (omega arith)
 
 -- a command opens a file
-some_file : (command : Command) → 1 ≤ files_of command
+pub some_file : (command : Command) → 1 ≤ files_of command
 some_file (plan name series pivots) = omega arith
 some_file (prices name series pivots) = omega arith
 some_file (check name certificate series) = omega arith
@@ -143,13 +143,19 @@ comes_of command before after t second outcome read told is = record {
   is = read.short (work_of command second) ∙ is;
 }
 
--- what a command comes to where it refuses
-refused_for_reason : (command : Command) (before after : FilesView) (reason : Reason) → ComesTo command before (refuses (refused reason)) → AreOpened (files_for reason) before after → IsRefusedFor command before after reason
-refused_for_reason command before after reason comes opens = record { outcome = refuses (refused reason); comes = comes; refusal = refl; opens = opens }
-
 -- as many files were opened as a reason needs
 opened_for : (before after : FilesView) (reason : Reason) {count : ℕ} → files_for reason ≡ count → AreOpened count before after → AreOpened (files_for reason) before after
 opened_for before after reason e opens = subst (λ count. AreOpened count before after) (sym e) opens
+
+-- what a command comes to where it refuses
+refused_for_reason : (command : Command) (before after : FilesView) (reason : Reason) → ComesTo command before (refuses (refused reason)) → files_for reason ≡ 1 → AreOpened 1 before after → IsRefusedFor command before after reason
+refused_for_reason command before after reason comes first opens = record {
+  outcome = refuses (refused reason);
+  comes = comes;
+  refusal = refl;
+  few = rw first (some_file command);
+  opens = opened_for before after reason first opens;
+}
 
 -- why a platform file isn't read is why the command is refused
 pub platform_fault : (command : Command) (before after : FilesView) (refusal : Refusal) → IsPlatformFault before (first_name command) after refusal → IsCauseFor command before after refusal
@@ -160,7 +166,7 @@ platform_fault command before after (refused reason) fault = refused_for_reason 
   first_told = fault.cause.file;
   second_told = chosen_may_be (before.held (second_name command));
   is = fault.cause.outcome (work_of command (chosen (before.held (second_name command))));
-}) (opened_for before after reason fault.cause.first fault.opens)
+}) fault.cause.first fault.opens
 platform_fault command before after (cannot_read named) fault =
     inl (record { is_first = fault.cause.same; cause = subst (λ name. HasCause before name after) (sym fault.cause.same) fault.cause.cause; opens = fault.opens })
 platform_fault command before after no_memory fault = record { count = 1; few = some_file command; opens = fault.opens }
@@ -177,7 +183,7 @@ refused_is_cause : (command : Command) (before after : FilesView) (t : TimedView
     opened 1 (work_of command second t) ≡ 1 → (refusal : Refusal) → MayRefuse (work_of command second t) refusal → IsCauseFor command before after refusal
 refused_is_cause command before after t second read told first usage is = absurd is
 refused_is_cause command before after t second read told first (refused reason) is =
-    refused_for_reason command before after reason (comes_of command before after t second (refuses (refused reason)) read told is) (opened_for before after reason (sym (ap (opened 1) is) ∙ first) read.opens)
+    refused_for_reason command before after reason (comes_of command before after t second (refuses (refused reason)) read told is) (sym (ap (opened 1) is) ∙ first) read.opens
 refused_is_cause command before after t second read told first (cannot_read name) is = absurd is
 refused_is_cause command before after t second read told first no_memory is = record { count = 1; few = some_file command; opens = read.opens }
 
@@ -263,6 +269,7 @@ second_cause command before middle after t outcome pair two work read (refused r
   outcome = outcome fault.cause.bytes;
   comes = comes_of command before middle t (Some fault.cause.bytes) (outcome fault.cause.bytes) read (told_before before middle (first_name command) t (second_name command) (Some fault.cause.bytes) read fault.cause.file) (work fault.cause.bytes);
   refusal = fault.cause.refusal;
+  few = rw (fault.cause.second, two) (omega arith);
   opens = opened_for before after reason fault.cause.second (raised_twice before.opens middle.opens after.opens read.opens fault.opens);
 }
 second_cause command before middle after t outcome pair two work read (cannot_read named) fault = inr (record {

@@ -120,6 +120,7 @@ pub record IsRefusedFor (command : Command) (before after : FilesView) (reason :
   pub outcome : Outcome
   pub comes : ComesTo command before outcome
   pub refusal : IsRefusal outcome (refused reason)
+  pub few : files_for reason ≤ files_of command
   pub opens : AreOpened (files_for reason) before after
 
 -- a command's text is due, where no call of the files failed, and is what it claims; each of the command's files was opened once

@@ -1,5 +1,5 @@
 -- What reading a named file comes to: a platform's, and a certificate's or a plan's behind it (this project).
-use Rattle.std.specs.Prelude.{◌≡◌, ℕ, ◌*◌, ◌≤◌, nat_abs, List, length, Some, Ok}
+use Rattle.std.specs.Prelude.{◌≡◌, ℕ, ◌+◌, ◌*◌, ◌≤◌, ◌⊎◌, nat_abs, List, length, Some, Ok}
 use Rattle.outside_io.specs.Files.{FilesView, HasCause}
 use Rattle.outside_io.specs.Reading.{MayPass}
 use Rattle.platform_file.specs.Reading.{most_bytes}

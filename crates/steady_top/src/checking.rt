@@ -1,14 +1,14 @@
 //! The command `check`.
 
-ghost use Rattle.std.specs.Prelude.{◌≡◌, ◌++◌, codes, decimal, length, string_bytes, MatchResult, IfOk, OnOk};
+ghost use Rattle.std.specs.Prelude.{◌≡◌, ◌++◌, Ok, codes, decimal, length, string_bytes, MatchResult, IfOk, OnOk};
 ghost use Rattle.std.specs.Fmt.{signed_decimal};
 ghost use Rattle.text_lines.specs.Lines.{line};
 ghost use Rattle.tasking_program.specs.Programme.{tasking_programme};
 ghost use Rattle.command_words.specs.Words.{check};
 ghost use Rattle.steady_top.specs.Faults.{refusal_of};
-ghost use Rattle.steady_top.specs.Outcomes.{upper_text, check_of_file};
+ghost use Rattle.steady_top.specs.Outcomes.{judged_reading, upper_text, check_of_file};
 ghost use Rattle.steady_top.specs.Answers.{IsMade, IsCauseFor};
-ghost use Rattle.steady_top.specs.Planned.{IsSecondFault, MayRefuse, IsProved, IsJudged, check_of_bytes, IsCheck, IsChecked};
+ghost use Rattle.steady_top.specs.Planned.{IsSecondFault, MayRefuse, IsProved, check_of_bytes, IsCheck, IsChecked};
 
 use crate::fault::{CheckFault, ReadingFault, TopFault};
 use crate::reading::{read_named, read_timed};
@@ -70,7 +70,7 @@ fn judge<'a>(
     requires rows { length certificate.now.prices ≡ length lp.now.rows }
     ensures text { MatchResult result
         (λ text. IsProved timed.now certificate.now (string_bytes text))
-        (λ fault. IsJudged timed.now certificate.now (refusal_of fault)) }
+        (λ fault. MayRefuse (judged_reading timed.now (Ok certificate.now)) (refusal_of fault)) }
 {
     timed.known();
     match dual_checker::check(lp, certificate) {

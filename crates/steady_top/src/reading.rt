@@ -21,7 +21,7 @@ pub(crate) fn read_named<'a, F: Files>(
     requires { most < 2 ^ 64 - 1 }
     ensures { MatchResult result
         (λ bytes. IsWholeRead (F.state files.old) name.now most bytes.items (F.state files.new))
-        (λ fault. IsUnread (F.state files.old) name.now most (refusal_of long) (F.state files.new) (refusal_of fault)) }
+        (λ fault. IsUnread (F.state files.old) name.now most (refusal_of long.entry) (F.state files.new) (refusal_of fault)) }
 {
     match read_whole(alloc, files, name, most) {
         Ok(bytes) => Ok(bytes),
