@@ -8,4 +8,5 @@ mod optima;
 mod periods;
 mod programmes;
 mod ratios;
+mod scripted;
 mod tableaux;

@@ -1,6 +1,9 @@
 //! Files and sinks, in memory and outside, with calls that fail.
 
 use crate::tests::comparing::{fails_at, holds};
+use crate::tests::scripted::{
+    ScriptedRead, ScriptedSystem, ScriptedWriter, are_numbered, fill_numbered,
+};
 use outside_io::{
     Failed, MemoryFiles, MemorySink, ReadEnd, StdFiles, StdSink, read_whole, write_whole,
 };
@@ -143,30 +146,231 @@ fn writes_whole_or_a_front(rt: HostRuntime) -> Result<(), Fail> {
     Ok(())
 }
 
-/// The name of a file of the system.
+/// Whether a file of the system is read whole, at most so many bytes of it, and has this text.
+fn has_text(rt: &HostRuntime, name: &str, most: u32, text: &str) -> Result<bool, ReadEnd> {
+    let bytes = read_whole(rt.alloc(), &mut StdFiles::new(rt), name, u64::from(most))?;
+    Ok(bytes.as_slice() == text.as_bytes())
+}
+
+/// The name of a file of the system, and what it contains.
 const OUTSIDE: &str = "outside_io.txt";
 
-/// Whether the file is read whole, at most so many bytes of it.
-fn is_read_outside(rt: &HostRuntime, most: u32) -> Result<bool, ReadEnd> {
-    let bytes = read_whole(rt.alloc(), &mut StdFiles::new(rt), OUTSIDE, u64::from(most))?;
-    Ok(bytes.as_slice() == b"one two\n".as_slice())
-}
+const WORDS: &str = "one two\n";
 
 fn writes_outside(rt: &HostRuntime) -> Result<(), Fail> {
     let ended = write_whole(&mut StdSink::new(io::writer(rt)), b"written outside\n");
     holds(ended == Ok(()), "standard output")
 }
 
-fn reads_and_writes(rt: &HostRuntime) -> Result<(), Fail> {
-    fs::write(rt, OUTSIDE, "one two\n")?;
-    holds(is_read_outside(rt, 100) == Ok(true), OUTSIDE)?;
-    holds(is_read_outside(rt, 3) == Err(ReadEnd::Longer), "longer")?;
+fn reads_and_removes(rt: &HostRuntime) -> Result<(), Fail> {
+    fs::write(rt, OUTSIDE, WORDS)?;
+    holds(has_text(rt, OUTSIDE, 100, WORDS) == Ok(true), OUTSIDE)?;
+    holds(
+        has_text(rt, OUTSIDE, 3, WORDS) == Err(ReadEnd::Longer),
+        "longer",
+    )?;
     fs::remove_file(rt, OUTSIDE)?;
-    holds(is_read_outside(rt, 100) == Err(ReadEnd::Failed), "removed")?;
-    writes_outside(rt)
+    holds(
+        has_text(rt, OUTSIDE, 100, WORDS) == Err(ReadEnd::Failed),
+        "removed",
+    )
 }
 
 #[test]
 fn reads_and_writes_outside(rt: HostRuntime) -> Result<(), Fail> {
-    reads_and_writes(&rt)
+    reads_and_removes(&rt)?;
+    writes_outside(&rt)
+}
+
+/// The most bytes that are wanted, the reads, and how many numbered bytes come of them, or why not all.
+type SystemRow = (
+    u32,
+    &'static [ScriptedRead; 3],
+    Result<(usize, bool), ReadEnd>,
+);
+
+/// A read that isn't to come.
+const NONE: ScriptedRead = (0, None);
+
+/// Each read brings a buffer for the lesser of 65,536 bytes and what is missing of one more than the most. A read of fewer bytes
+/// isn't the end, nor is one that fails.
+static SYSTEM_READS: [SystemRow; 10] = [
+    (100, &[(101, Some(0)), NONE, NONE], Ok((0, true))),
+    (
+        100,
+        &[(101, Some(5)), (96, Some(3)), (93, Some(0))],
+        Ok((8, true)),
+    ),
+    (
+        8,
+        &[(9, Some(5)), (4, Some(3)), (1, Some(0))],
+        Ok((8, true)),
+    ),
+    (7, &[(8, Some(5)), (3, Some(3)), NONE], Err(ReadEnd::Longer)),
+    (
+        100,
+        &[(101, None), (101, Some(0)), NONE],
+        Err(ReadEnd::Failed),
+    ),
+    (
+        100,
+        &[(101, Some(5)), (96, None), (96, Some(0))],
+        Err(ReadEnd::Failed),
+    ),
+    (
+        70000,
+        &[(65536, Some(65536)), (4465, None), NONE],
+        Err(ReadEnd::Failed),
+    ),
+    (
+        70000,
+        &[(65536, Some(65536)), (4465, Some(4464)), (1, None)],
+        Err(ReadEnd::Failed),
+    ),
+    (
+        131072,
+        &[(65536, Some(65536)), (65536, Some(65536)), (1, Some(0))],
+        Ok((131072, true)),
+    ),
+    (
+        131072,
+        &[(65536, Some(65536)), (65536, Some(65536)), (1, Some(1))],
+        Err(ReadEnd::Longer),
+    ),
+];
+
+/// How many bytes are read of a scripted system's file, and whether they are the numbered ones.
+fn read_of(alloc: Global, system: &ScriptedSystem, most: u32) -> Result<(usize, bool), ReadEnd> {
+    let bytes = read_whole(
+        alloc,
+        &mut StdFiles::new(system),
+        "scripted",
+        u64::from(most),
+    )?;
+    Ok((bytes.len(), are_numbered(&bytes)))
+}
+
+#[test]
+fn reads_by_a_script(rt: HostRuntime) -> Result<(), Fail> {
+    for row in &SYSTEM_READS {
+        if read_of(rt.alloc(), &ScriptedSystem { reads: *row.1 }, row.0) != row.2 {
+            return fails_at(row);
+        }
+    }
+    Ok(())
+}
+
+/// The writes, how a write of `TEXT` ends over them, and what is taken then.
+type ScriptedWriteRow = (&'static [Option<usize>], Result<(), Failed>, &'static str);
+
+static SCRIPTED_WRITES: [ScriptedWriteRow; 5] = [
+    (&[Some(3), Some(3), Some(3), Some(3)], Ok(()), TEXT),
+    (&[Some(1), Some(100)], Ok(()), TEXT),
+    (&[Some(5), None, Some(7)], Err(Failed), "stead"),
+    (&[Some(5), Some(0), Some(7)], Err(Failed), "stead"),
+    (&[None, Some(12)], Err(Failed), ""),
+];
+
+fn writes_by(out: &mut ScriptedWriter, row: &ScriptedWriteRow) -> Result<(), Fail> {
+    let ended = write_whole(&mut StdSink::new(&mut *out), TEXT.as_bytes());
+    if ended != row.1 || out.taken.as_slice() != row.2.as_bytes() {
+        return fails_at(row);
+    }
+    Ok(())
+}
+
+fn writes_scripted(alloc: Global, row: &ScriptedWriteRow) -> Result<(), Fail> {
+    writes_by(
+        &mut ScriptedWriter {
+            taken: Vec::new(alloc),
+            writes: row.0,
+        },
+        row,
+    )
+}
+
+#[test]
+fn writes_by_a_script(rt: HostRuntime) -> Result<(), Fail> {
+    for row in &SCRIPTED_WRITES {
+        writes_scripted(rt.alloc(), row)?;
+    }
+    Ok(())
+}
+
+/// Names of files of the system, and what each contains. A blank at an end of a name belongs to it.
+static NAMED: [(&str, &str); 4] = [
+    (" a b ", "blanks at both ends"),
+    ("a b ", "a blank behind"),
+    (" a b", "a blank before"),
+    ("a b", "no blank at an end"),
+];
+
+fn writes_named(rt: &HostRuntime) -> Result<(), Fail> {
+    for (name, text) in &NAMED {
+        fs::write(rt, *name, *text)?;
+    }
+    Ok(())
+}
+
+fn reads_named(rt: &HostRuntime) -> Result<(), Fail> {
+    for (name, text) in &NAMED {
+        holds(has_text(rt, name, 100, text) == Ok(true), name)?;
+    }
+    Ok(())
+}
+
+fn removes_named(rt: &HostRuntime) -> Result<(), Fail> {
+    for (name, _) in &NAMED {
+        fs::remove_file(rt, *name)?;
+    }
+    Ok(())
+}
+
+#[test]
+fn trims_no_name(rt: HostRuntime) -> Result<(), Fail> {
+    writes_named(&rt)?;
+    reads_named(&rt)?;
+    removes_named(&rt)
+}
+
+/// The name of a file of the system with numbered bytes.
+const NUMBERED: &str = "numbered";
+
+/// Lengths about one read and two.
+static LENGTHS: [usize; 4] = [65535, 65536, 65537, 140000];
+
+fn write_numbered(rt: &HostRuntime, bytes: &mut [u8]) -> Result<(), Fail> {
+    fill_numbered(bytes, 0);
+    fs::write(rt, NUMBERED, &*bytes)?;
+    Ok(())
+}
+
+fn read_numbered(rt: &HostRuntime) -> Result<(usize, bool), ReadEnd> {
+    let bytes = read_whole(rt.alloc(), &mut StdFiles::new(rt), NUMBERED, 140000)?;
+    Ok((bytes.len(), are_numbered(&bytes)))
+}
+
+fn reads_as_many(rt: &HostRuntime, length: usize) -> Result<(), Fail> {
+    write_numbered(rt, &mut vec![in rt.alloc(); 0u8; length]?)?;
+    if read_numbered(rt) != Ok((length, true)) {
+        return fails_at(&length);
+    }
+    Ok(())
+}
+
+#[test]
+fn reads_each_piece_in_order(rt: HostRuntime) -> Result<(), Fail> {
+    for length in &LENGTHS {
+        reads_as_many(&rt, *length)?;
+    }
+    fs::remove_file(&rt, NUMBERED)?;
+    Ok(())
+}
+
+#[test]
+fn reads_no_folder(rt: HostRuntime) -> Result<(), Fail> {
+    holds(
+        has_text(&rt, ".", 100, "") == Err(ReadEnd::Failed),
+        "a folder",
+    )
 }

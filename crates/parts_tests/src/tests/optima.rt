@@ -3,7 +3,7 @@
 ghost use Rattle.std.specs.Prelude.{◌≡◌};
 ghost use Rattle.linear_program.specs.Duality.{IsBounded};
 
-use crate::tests::comparing::{fails_at, holds};
+use crate::tests::comparing::{fails_at, holds, is_written};
 use crate::tests::models::{crossing, halves};
 use crate::tests::programmes::is_optimum;
 use dense_tableau::Dense;
@@ -62,4 +62,25 @@ fn tells_where_a_pivot_overflows(rt: HostRuntime) -> Result<(), Fail> {
         10,
         FAULT,
     )
+}
+
+static CAUSES: [(SolveFault, &str); 3] = [
+    (
+        SolveFault::Overflow {
+            pivots: 7,
+            row: 2,
+            column: 5,
+        },
+        "after 7 pivots the next one overflows at row 2, column 5",
+    ),
+    (SolveFault::Spent { limit: 9 }, "9 pivots are spent"),
+    (SolveFault::NoMemory, "no memory"),
+];
+
+#[test]
+fn says_why_a_programme_is_not_solved(rt: HostRuntime) -> Result<(), Fail> {
+    for (fault, text) in &CAUSES {
+        is_written(rt.alloc(), fault, text)?;
+    }
+    Ok(())
 }

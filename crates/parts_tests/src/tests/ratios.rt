@@ -2,7 +2,7 @@
 
 ghost use Rattle.std.specs.Prelude.{◌≤◌};
 
-use crate::tests::comparing::holds;
+use crate::tests::comparing::{holds, is_written};
 use ratio_core::{
     Ratio, RatioFault, cmp_parts, gcd, lcm_within, multiples_are_least, parse_ratio, product_within,
 };
@@ -231,6 +231,23 @@ fn works_out_fractions() -> Result<(), Fail> {
     multiples_are_least();
     for (name, fact) in &FACTS {
         holds(is_so(fact), name)?;
+    }
+    Ok(())
+}
+
+static CAUSES: [(RatioFault, &str); 3] = [
+    (
+        RatioFault::Shape,
+        "neither a whole number nor a fraction of two",
+    ),
+    (RatioFault::Zero, "a part is 0"),
+    (RatioFault::TooLarge, "a part is greater than 1000000"),
+];
+
+#[test]
+fn says_why_a_text_is_no_fraction(rt: HostRuntime) -> Result<(), Fail> {
+    for (fault, text) in &CAUSES {
+        is_written(rt.alloc(), fault, text)?;
     }
     Ok(())
 }
