@@ -18,7 +18,7 @@ pub record FilesView : Type 0 where
   pub taken : ℕ
   -- whether the last open succeeded
   pub ready : Bool
-  -- how many calls have failed
+  -- how many faults there were: failed calls, but for opens of names that are told to be absent
   pub faults : ℕ
   -- how many opens there were, refused ones too
   pub opens : ℕ
@@ -51,7 +51,6 @@ HasCause before name after = MayFail (before.held name) before.faults after.faul
 -- the name was not opened
 pub record IsNotOpened (before : FilesView) (name : List ℕ) (after : FilesView) : Type 0 where
   pub cause : HasCause before name after
-  pub taken : after.taken ≡ 0
   pub ready : after.ready ≡ false
   pub opens : after.opens ≡ raised before.opens 1
   pub held : (other : List ℕ) → after.held other ≡ before.held other

@@ -1,5 +1,5 @@
 -- Reading a file whole.
-use Rattle.std.specs.Prelude.{◌≡◌, ℕ, ◌+◌, ◌<◌, ◌≤◌, List, length, IfSome}
+use Rattle.std.specs.Prelude.{◌≡◌, ℕ, ◌+◌, ◌<◌, ◌≤◌, true, List, length, IfSome}
 use Rattle.outside_io.specs.declared.files.ReadEnd.{ReadEnd}
 use Rattle.outside_io.specs.declared.files.ReadEnd.TheVariants.{Failed, Longer, NoMemory}
 use Rattle.outside_io.specs.Faults.{raised, Rose}
@@ -44,7 +44,7 @@ pub record IsNotReadOut (before : FilesView) (most : ℕ) (end : ReadEnd) (after
   pub taken : after.taken ≤ most_taken most end
   pub never_falls : before.faults ≤ after.faults
 
--- one open, and nothing else that a caller could see but bytes taken and faults
+-- one open was made, and what is told of names stays
 pub record OneOpen (before after : FilesView) : Type 0 where
   pub opens : after.opens ≡ raised before.opens 1
   pub held : (name : List ℕ) → after.held name ≡ before.held name
@@ -74,4 +74,4 @@ EndCause before name most NoMemory after = after.faults ≡ before.faults
 pub record IsReadEnd (before : FilesView) (name : List ℕ) (most : ℕ) (end : ReadEnd) (after : FilesView) : Type 0 where
   pub one_open : OneOpen before after
   pub cause : EndCause before name most end after
-  pub taken : after.taken ≤ most_taken most end
+  pub taken : after.ready ≡ true → after.taken ≤ most_taken most end

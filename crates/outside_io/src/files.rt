@@ -14,7 +14,7 @@ pub trait Files: Drop {
     ghost state: { Self → FilesView };
 
     /// Makes the named file the current one, at its first byte. `Failed` comes only where the count of faults rose, or where
-    /// the object tells that there is no such file; then no file is the current one, and no byte is taken.
+    /// the object tells that there is no such file; then no file is ready to be read.
     fn open(&mut self, name: &str) -> Result<(), Failed>
         ensures { MatchResult result
             (λ _. IsOpened (state self.old) name.now (state self.new))

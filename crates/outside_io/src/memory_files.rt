@@ -1,6 +1,7 @@
 //! Files in memory.
 
-ghost use Rattle.std.specs.Prelude.{◌≡◌, ◌⊎◌, ◌↔◌, ◌+◌, ◌<◌, ◌≤◌, ◌++◌, true, false, None, length, drop, map, slice_range, IfSome, IsErr, IsTrue, MatchResult, MatchOption};
+ghost use Rattle.std.specs.Prelude.{◌≡◌, ◌≢◌, ◌⊎◌, ◌↔◌, ◌+◌, ◌-◌, ◌<◌, ◌≤◌, ◌++◌, true, false, None, length, min, drop, map, slice_range};
+ghost use Rattle.std.specs.Prelude.{IfSome, IfOk, OnErr, IsErr, IsTrue, MatchResult, MatchOption};
 ghost use Rattle.outside_io.specs.Faults.{raised};
 ghost use Rattle.outside_io.specs.Files.{absent, contents, IsOpened, IsNotOpened, IsRead, IsNotRead};
 ghost use Rattle.outside_io.specs.Memory.{files_state, told_by, is_listed, IsFilesCall};
@@ -61,6 +62,7 @@ fn take_from(entries: &[(String, Vec<u8>)], place: usize, taken: usize, into: &m
     requires { MatchOption (place_bytes entries.now place) ⊥ (λ file. taken ≤ length file) }
     ensures within { result ≤ length into.old }
     ensures taken { MatchOption (place_bytes entries.now place) ⊥ (λ file. taken + result ≤ length file) }
+    ensures count { IfSome (place_bytes entries.now place) (λ file. result ≡ min (length into.old) (length file - taken)) }
     ensures bytes { IfSome (place_bytes entries.now place)
         (λ file. into.new ≡ slice_range file taken (taken + result) ++ drop result into.old) }
     ensures ending { IfSome (place_bytes entries.now place) (λ file. 0 < length into.old → (result ≡ 0) ↔ (taken ≡ length file)) }
@@ -108,6 +110,7 @@ impl Files for MemoryFiles {
             (λ _. IsOpened (files_state self.old) name.now (files_state self.new))
             (λ _. IsNotOpened (files_state self.old) name.now (files_state self.new)) }
         ensures exact { IsErr result ↔ (IsTrue (is_listed self.old.calls self.old.failing) ⊎ (told_by self.old.entries name.now ≡ absent)) }
+        ensures fault { OnErr result (told_by self.old.entries name.now ≢ absent → self.new.faults ≡ raised self.old.faults 1) }
         ensures call { IsFilesCall self.old self.new }
     {
         let fails = self.is_to_fail();
@@ -133,7 +136,9 @@ impl Files for MemoryFiles {
         ensures read { MatchResult result
             (λ count. IsRead (files_state self.old) into.old into.new count (files_state self.new))
             (λ _. IsNotRead (files_state self.old) (files_state self.new)) }
+        ensures count { IfOk result (λ count. IfSome self.old.current (λ file. count ≡ min (length into.old) (length file - self.old.taken))) }
         ensures exact { IsErr result ↔ IsTrue (is_listed self.old.calls self.old.failing) }
+        ensures fault { OnErr result (self.new.faults ≡ raised self.old.faults 1) }
         ensures call { IsFilesCall self.old self.new }
     {
         if self.is_to_fail() {

@@ -1,6 +1,7 @@
 //! A sink in memory.
 
 ghost use Rattle.std.specs.Prelude.{◌≡◌, ◌-◌, ◌⊎◌, ◌↔◌, ◌<◌, ◌≤◌, [], length, min, max, OnOk, OnErr, IfOk, IsErr, IsTrue, MatchResult};
+ghost use Rattle.outside_io.specs.Faults.{raised};
 ghost use Rattle.outside_io.specs.Sinks.{IsWritten, IsNotWritten};
 ghost use Rattle.outside_io.specs.Memory.{sink_state, is_listed, IsSinkCall};
 
@@ -89,6 +90,7 @@ impl Sink for MemorySink {
         ensures count { IfOk result (λ count. count ≡ min (length bytes.now) (min self.old.most self.old.room)) }
         ensures exact { IsErr result ↔ (IsTrue (is_listed self.old.calls self.old.failing) ⊎ ((self.old.room ≡ 0) × (0 < length bytes.now))) }
         ensures room { MatchResult result (λ count. self.new.room ≡ self.old.room - count) (λ _. self.new.room ≡ self.old.room) }
+        ensures fault { OnErr result (self.new.faults ≡ raised self.old.faults 1) }
         ensures call { IsSinkCall self.old self.new }
     {
         let call = self.calls;

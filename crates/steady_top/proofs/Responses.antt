@@ -1,17 +1,16 @@
 -- What a response of the program says of each status.
-use Rattle.std.proofs.Common.{◌≡◌, ◌∙◌, ◌≤◌, ℕ, List, Option, Some, None, ◌⊎◌, inl, inr, refl, sym, ap, subst, arith}
+use Rattle.std.proofs.Common.{◌≡◌, ◌∙◌, ℕ, List, Option, Some, None, ◌⊎◌, inl, inr, refl, sym, ap, subst, arith}
 use Rattle.outside_io.specs.Faults.{Rose}
 use Rattle.outside_io.specs.Files.{Told, untold, absent, contents, FilesView, MayFail}
 use Rattle.planner.specs.declared.fault.PlanFault.TheVariants as plans
 use Rattle.steady_top.specs.declared.status.Status.{Status}
 use Rattle.steady_top.specs.declared.status.Status.TheVariants as status
-use Rattle.steady_top.specs.Refusals.{Reason, no_platform, no_ticks, no_plan, long_certificate, certificate_line, negative_price, uncovered_column, passed_value, check_overflow, long_plan, plan_line, long_operations, breach, Refusal, usage, refused, cannot_read, no_memory, reason_status, files_for, status_of, error_line}
+use Rattle.steady_top.specs.Refusals.{Reason, no_platform, no_ticks, no_plan, long_certificate, certificate_line, negative_price, uncovered_column, passed_value, check_overflow, long_plan, plan_line, long_operations, breach, Refusal, usage, refused, cannot_read, no_memory, reason_status, status_of, error_line}
 use Rattle.command_words.specs.Words.{Command, plan, prices, check, audit, command_of}
 use Rattle.platform_file.specs.Ticks.{TimedView}
 use Rattle.steady_top.specs.Outcomes.{first_name, second_name, files_of, Outcome, refuses, IsText, IsRefusal, work_of, outcome_for, outcome_of_command, outcome_of}
 use Rattle.steady_top.proofs.Audited.{text_or_refusal, print_or_refusal, one_status}
-use Rattle.steady_top.specs.Answers.{MayBe, IsToldAs, AreNamesToldAs, AreToldAs, ComesTo, Opens, IsSecondUnread, IsOutOfMemory, IsCauseFor, IsCause, Call, IsPrinted, IsRefused, IsRefusedWith, IsCutShort, IsCalm, Ends, IsResponse, IsOneOf}
-use Rattle.steady_top.proofs.Works.{some_file}
+use Rattle.steady_top.specs.Answers.{MayBe, IsToldAs, AreNamesToldAs, AreToldAs, ComesTo, IsSecondUnread, IsCauseFor, IsCause, IsLineCause, Call, IsPrinted, IsRefused, IsRefusedWith, IsCutShort, IsCalm, Ends, IsResponse, IsOneOf}
 use Rattle.steady_top.specs.Ends.{IsEnd}
 
 -- the statuses of refusals of what was read
@@ -120,26 +119,26 @@ first_absent words before command name given is none holds told =
     (ap (outcome_of_command holds) given ∙ ap (λ file. outcome_for command file (holds (second_name command))) nothing ∙ ap (λ name. refuses (cannot_read name)) (sym is))
 
 -- a command that opens two files refuses where the second is absent
-opens_second : (command : Command) (first second : List ℕ) (t : TimedView) → Opens command first second → (first_name command ≡ first) × (second_name command ≡ second) × (work_of command None t ≡ refuses (cannot_read second))
-opens_second (plan name series pivots) first second t opens = absurd opens
-opens_second (prices name series pivots) first second t opens = absurd opens
-opens_second (check name certificate series) first second t opens = (opens.0, opens.1, ap (λ n. refuses (cannot_read n)) opens.1)
-opens_second (audit name other periods) first second t opens = (opens.0, opens.1, ap (λ n. refuses (cannot_read n)) opens.1)
+opens_second : (command : Command) (t : TimedView) → files_of command ≡ 2 → work_of command None t ≡ refuses (cannot_read (second_name command))
+opens_second (plan name series pivots) t two = absurd (omega (arith, two))
+opens_second (prices name series pivots) t two = absurd (omega (arith, two))
+opens_second (check name certificate series) t two = refl
+opens_second (audit name other periods) t two = refl
 
 -- behind a platform that was read, the second file is absent
 second_absent : (words : List (List ℕ)) (before after : FilesView) (command : Command) (name : List ℕ) → command_of words ≡ Some command → IsSecondUnread command before after name → before.held name ≡ absent → IsOutcome words before (cannot_read name)
 second_absent words before after command name given fault none holds told =
-    let opens = opens_second command fault.first name fault.timed fault.pair in
     let names : AreNamesToldAs before command holds = told command given in
-    let nothing : holds (second_name command) ≡ None = subst (λ file. IsToldAs file (holds (second_name command))) (ap before.held opens.1 ∙ none) names.1 in
-    let read : MayBe (before.held (first_name command)) (Some fault.platform.bytes) = subst (λ name. MayBe (before.held name) (Some fault.platform.bytes)) (sym opens.0) fault.platform.file in
-    let first : holds (first_name command) ≡ Some fault.platform.bytes = same_file (before.held (first_name command)) (holds (first_name command)) (Some fault.platform.bytes) names.0 read in
+    let nothing : holds (second_name command) ≡ None = subst (λ file. IsToldAs file (holds (second_name command))) (subst (λ name. before.held name ≡ absent) fault.is_second none) names.1 in
+    let platform = fault.behind.platform in
+    let first : holds (first_name command) ≡ Some platform.bytes = same_file (before.held (first_name command)) (holds (first_name command)) (Some platform.bytes) names.0 platform.file in
     refuses_so (outcome_of words holds) (cannot_read name)
     (ap (outcome_of_command holds) given
     ∙ ap (λ file. outcome_for command file (holds (second_name command))) first
-    ∙ ap (λ file. outcome_for command (Some fault.platform.bytes) file) nothing
-    ∙ fault.short (work_of command None)
-    ∙ opens.2)
+    ∙ ap (λ file. outcome_for command (Some platform.bytes) file) nothing
+    ∙ fault.behind.short (work_of command None)
+    ∙ opens_second command fault.behind.timed fault.behind.two
+    ∙ ap (λ name. refuses (cannot_read name)) (sym fault.is_second))
 
 -- a cause leads to its refusal, where no fault occurred
 cause_for_is_outcome : (words : List (List ℕ)) (before after : FilesView) (refusal : Refusal) → (Rose before.faults after.faults → ⊥) → (command : Command) → command_of words ≡ Some command →
@@ -154,37 +153,39 @@ cause_for_is_outcome words before after (cannot_read name) calm command given (i
 cause_for_is_outcome words before after no_memory calm command given cause = inl refl
 
 cause_is_outcome : (words : List (List ℕ)) (before after : FilesView) (refusal : Refusal) → (Rose before.faults after.faults → ⊥) →
-    IsCause words before after refusal → (refusal ≡ no_memory) ⊎ IsOutcome words before refusal
+    IsLineCause words before after refusal → (refusal ≡ no_memory) ⊎ IsOutcome words before refusal
 cause_is_outcome words before after usage calm cause = inr (λ holds told. refuses_so (outcome_of words holds) usage (ap (outcome_of_command holds) cause.0))
 cause_is_outcome words before after (refused reason) calm cause = cause_for_is_outcome words before after (refused reason) calm cause.command cause.given cause.holds
 cause_is_outcome words before after (cannot_read name) calm cause = cause_for_is_outcome words before after (cannot_read name) calm cause.command cause.given cause.holds
 cause_is_outcome words before after no_memory calm cause = inl refl
 
--- the command opens two files
-two_files : (command : Command) (first second : List ℕ) → Opens command first second → 2 ≤ files_of command
-two_files (plan name series pivots) first second pair = absurd pair
-two_files (prices name series pivots) first second pair = absurd pair
-two_files (check name certificate series) first second pair = omega arith
-two_files (audit name other periods) first second pair = omega arith
-
--- where a refusal has its cause, memory may have run out for its line
-out_of_memory : (words : List (List ℕ)) (before after : FilesView) (refusal : Refusal) → IsCause words before after refusal → IsCause words before after no_memory
-out_of_memory words before after usage cause = inl cause.1
-out_of_memory words before after (refused reason) cause =
-    inr (record { command = cause.command; given = cause.given; holds = record { count = files_for reason; few = cause.holds.few; opens = cause.holds.opens } })
-out_of_memory words before after (cannot_read name) cause = inr (record { command = cause.command; given = cause.given; holds = of_unread cause.holds })
-  where
-    of_unread : IsCauseFor cause.command before after (cannot_read name) → IsOutOfMemory cause.command before after
-    of_unread (inl first) = record { count = 1; few = some_file cause.command; opens = first.opens }
-    of_unread (inr second) = record { count = 2; few = two_files cause.command second.first name second.pair; opens = second.opens }
-out_of_memory words before after no_memory cause = cause
+-- the cause of a refusal is that of its line
+cause_of_line : (words : List (List ℕ)) (before after : FilesView) (refusal : Refusal) → IsCause words before after refusal → IsLineCause words before after refusal
+cause_of_line words before after usage cause = cause
+cause_of_line words before after (refused reason) cause = cause
+cause_of_line words before after (cannot_read name) cause = cause
+cause_of_line words before after no_memory cause = (no_memory, cause)
 
 -- a refusal whose line was to be written, or that of memory that ran out
 pub refused_response : (call : Call) (refusal : Refusal) (result : Status) → IsCause call.words call.before call.after refusal →
     IsOneOf refusal no_memory (λ due. Ends (status_of due) (error_line due) call.out_before call.out_after result) → IsResponse call result
-refused_response call refusal result cause (inl ends) = inr (record { refusal = refusal; cause = cause; ends = ends })
-refused_response call refusal result cause (inr ends) =
-    inr (record { refusal = no_memory; cause = out_of_memory call.words call.before call.after refusal cause; ends = ends })
+refused_response call refusal result cause (inl ends) =
+    inr (record { refusal = refusal; cause = cause_of_line call.words call.before call.after refusal cause; ends = ends })
+refused_response call refusal result cause (inr ends) = inr (record { refusal = no_memory; cause = (refusal, cause); ends = ends })
+
+-- words that are no command leave the files as they are
+left_alone : (words : List (List ℕ)) (before after : FilesView) (refusal : Refusal) → command_of words ≡ None → IsCause words before after refusal → after ≡ before
+left_alone words before after usage none cause = cause.1
+left_alone words before after (refused reason) none cause = let bad = sym none ∙ cause.given in cc
+left_alone words before after (cannot_read name) none cause = let bad = sym none ∙ cause.given in cc
+left_alone words before after no_memory none (inl same) = same
+left_alone words before after no_memory none (inr cause) = let bad = sym none ∙ cause.given in cc
+
+line_left_alone : (words : List (List ℕ)) (before after : FilesView) (refusal : Refusal) → command_of words ≡ None → IsLineCause words before after refusal → after ≡ before
+line_left_alone words before after usage none cause = left_alone words before after usage none cause
+line_left_alone words before after (refused reason) none cause = left_alone words before after (refused reason) none cause
+line_left_alone words before after (cannot_read name) none cause = left_alone words before after (cannot_read name) none cause
+line_left_alone words before after no_memory none cause = left_alone words before after cause.0 none cause.1
 
 module _ (call : Call) (result : Status) (response : IsResponse call result) where
   done : result ≡ status.Done → IsPrinted call
@@ -292,25 +293,17 @@ module _ (call : Call) (result : Status) (response : IsResponse call result) whe
     ]
   ]
     where
-      of_cause : (refusal : Refusal) → IsCause call.words call.before call.after refusal → result ≡ status_of refusal → (result ≡ status.Usage) ⊎ (result ≡ status.NoMemory)
+      of_cause : (refusal : Refusal) → IsLineCause call.words call.before call.after refusal → result ≡ status_of refusal → (result ≡ status.Usage) ⊎ (result ≡ status.NoMemory)
       of_cause usage cause is = inl is
       of_cause (refused reason) cause is = let bad = sym none ∙ cause.given in cc
       of_cause (cannot_read name) cause is = let bad = sym none ∙ cause.given in cc
       of_cause no_memory cause is = inr is
 
-  -- words that are no command leave the files as they are
   untouched : command_of call.words ≡ None → call.after ≡ call.before
   untouched none = elim response [
     | inl attempt ↦ let bad = sym none ∙ attempt.answer.given in cc
-    | inr attempt ↦ of_cause attempt.refusal attempt.cause
+    | inr attempt ↦ line_left_alone call.words call.before call.after attempt.refusal none attempt.cause
   ]
-    where
-      of_cause : (refusal : Refusal) → IsCause call.words call.before call.after refusal → call.after ≡ call.before
-      of_cause usage cause = cause.1
-      of_cause (refused reason) cause = let bad = sym none ∙ cause.given in cc
-      of_cause (cannot_read name) cause = let bad = sym none ∙ cause.given in cc
-      of_cause no_memory (inl same) = same
-      of_cause no_memory (inr cause) = let bad = sym none ∙ cause.given in cc
 
   -- so the call ends as each status says
   pub ends : IsEnd call result

@@ -22,10 +22,10 @@ use Rattle.steady_top.specs.declared.status.Status.{Status}
 use Rattle.steady_top.specs.declared.status.Status.TheVariants as status
 use Rattle.period_table.specs.Best.{IsBest}
 use Rattle.plan_text.specs.Texts.{plan_text}
-use Rattle.steady_top.specs.Refusals.{Reason, Refusal, usage, refused, cannot_read, no_memory, reason_status, files_for, status_of, error_line}
+use Rattle.steady_top.specs.Refusals.{Reason, Refusal, usage, refused, cannot_read, no_memory, reason_status, status_of, error_line}
 use Rattle.command_words.specs.Words.{Command, plan, prices, check, audit, command_of}
 use Rattle.steady_top.specs.Audits.{IsAudit}
-use Rattle.steady_top.specs.Outcomes.{first_name, second_name, files_of, upper_text, Outcome, IsPrint, IsRefusal, with_file, outcome_for}
+use Rattle.steady_top.specs.Outcomes.{first_name, second_name, files_of, files_for, upper_text, Outcome, IsPrint, IsRefusal, with_file, outcome_for}
 
 -- this may be what a name holds of which that is told
 abbrev pub MayBe : Told → Option (List ℕ) → Type 0
@@ -111,7 +111,7 @@ IsClaim (prices name series pivots) before text = IsPricedText pivots before nam
 IsClaim (check name second series) before text = IsCheckedText before name second text
 IsClaim (audit name other periods) before text = IsAuditedText periods before name other text
 
--- in a call so many files were opened, as far as the count of opens goes
+-- in a call so many opens were made, as far as their count goes
 abbrev pub AreOpened : ℕ → FilesView → FilesView → Type 0
 AreOpened count before after = after.opens ≡ raised before.opens count
 
@@ -120,8 +120,7 @@ pub record IsRefusedFor (command : Command) (before after : FilesView) (reason :
   pub outcome : Outcome
   pub comes : ComesTo command before outcome
   pub refusal : IsRefusal outcome (refused reason)
-  pub few : files_for reason ≤ files_of command
-  pub opens : AreOpened (files_for reason) before after
+  pub opens : AreOpened (files_for command reason) before after
 
 -- a command's text is due, where no call of the files failed, and is what it claims; each of the command's files was opened once
 pub record IsMade (command : Command) (before after : FilesView) (text : List ℕ) : Type 0 where
@@ -138,28 +137,24 @@ pub record IsFirstUnread (command : Command) (before after : FilesView) (name : 
   pub cause : HasCause before name after
   pub opens : AreOpened 1 before after
 
--- the command opens these two files, where the first is a platform's
-abbrev pub Opens : Command → List ℕ → List ℕ → Type 0
-Opens (plan name series pivots) first second = ⊥
-Opens (prices name series pivots) first second = ⊥
-Opens (check name certificate series) first second = (name ≡ first) × (certificate ≡ second)
-Opens (audit name other periods) first second = (name ≡ first) × (other ≡ second)
-
--- behind a platform that was read, the second file of a command couldn't be opened or read, in the second open of the call
-pub record IsSecondUnread (command : Command) (before after : FilesView) (name : List ℕ) : Type 0 where
-  pub first : List ℕ
-  pub pair : Opens command first name
+-- behind a platform that was read, a command opens its second file
+pub record IsBehindPlatform (command : Command) (before : FilesView) : Type 0 where
+  pub two : files_of command ≡ 2
   pub timed : TimedView
-  pub platform : IsPlatformOf before first timed
+  pub platform : IsPlatformOf before (first_name command) timed
   pub short : (next : TimedView → Outcome) → with_file next platform.bytes ≡ next timed
+
+-- behind it, the second file of a command couldn't be opened or read, in the second open of the call
+pub record IsSecondUnread (command : Command) (before after : FilesView) (name : List ℕ) : Type 0 where
+  pub is_second : name ≡ second_name command
+  pub behind : IsBehindPlatform command before
   pub cause : HasCause before name after
   pub opens : AreOpened 2 before after
 
--- memory ran out, behind no more files than the command has
+-- memory ran out without a fault of the files, behind the first file or, where a platform was read, behind the second
 pub record IsOutOfMemory (command : Command) (before after : FilesView) : Type 0 where
-  pub count : ℕ
-  pub few : count ≤ files_of command
-  pub opens : AreOpened count before after
+  pub calm : after.faults ≡ before.faults
+  pub opened : AreOpened 1 before after ⊎ (IsBehindPlatform command before × AreOpened 2 before after)
 
 -- why a command is refused; memory may run out at any time
 abbrev pub IsCauseFor : Command → FilesView → FilesView → Refusal → Type 0
@@ -179,6 +174,11 @@ abbrev pub IsCause : List (List ℕ) → FilesView → FilesView → Refusal →
 IsCause words before after usage = (command_of words ≡ None) × (after ≡ before)
 IsCause words before after no_memory = (after ≡ before) ⊎ IsOfCommand words (λ command. IsCauseFor command before after no_memory)
 IsCause words before after refusal = IsOfCommand words (λ command. IsCauseFor command before after refusal)
+
+-- the cause of an error line: its refusal's, or that there was no memory for the line of a refusal with its cause
+abbrev pub IsLineCause : List (List ℕ) → FilesView → FilesView → Refusal → Type 0
+IsLineCause words before after no_memory = (refusal : Refusal) × IsCause words before after refusal
+IsLineCause words before after refusal = IsCause words before after refusal
 
 -- a text that is due to the words, and what it is
 abbrev pub IsAnswer : List (List ℕ) → FilesView → FilesView → List ℕ → Type 0
@@ -204,13 +204,13 @@ pub record IsPrinted (call : Call) : Type 0 where
 
 -- the error line of a refusal was written whole, and the refusal has its cause
 pub record IsRefused (call : Call) (refusal : Refusal) : Type 0 where
-  pub cause : IsCause call.words call.before call.after refusal
+  pub cause : IsLineCause call.words call.before call.after refusal
   pub written : IsWholeWritten call.out_before (error_line refusal) call.out_after
 
 -- a refusal's error line, with its cause
 pub record IsDueLine (call : Call) (text : List ℕ) : Type 0 where
   pub refusal : Refusal
-  pub cause : IsCause call.words call.before call.after refusal
+  pub cause : IsLineCause call.words call.before call.after refusal
   pub is_line : text ≡ error_line refusal
 
 -- a write failed, and a prefix of the text is out
@@ -225,7 +225,7 @@ pub record IsRefusedWith (due : Status) (call : Call) : Type 0 where
   pub is : reason_status reason ≡ due
   pub refusal : IsRefused call (refused reason)
 
--- no call on the files or on the sink failed
+-- no fault of the files or of the sink occurred
 pub record IsCalm (call : Call) : Type 0 where
   pub files : Rose call.before.faults call.after.faults → ⊥
   pub out : Rose call.out_before.faults call.out_after.faults → ⊥
@@ -243,7 +243,7 @@ pub record IsPrintAttempt (call : Call) (result : Status) : Type 0 where
 -- a refusal's error line was to be written
 pub record IsRefusalAttempt (call : Call) (result : Status) : Type 0 where
   pub refusal : Refusal
-  pub cause : IsCause call.words call.before call.after refusal
+  pub cause : IsLineCause call.words call.before call.after refusal
   pub ends : Ends (status_of refusal) (error_line refusal) call.out_before call.out_after result
 
 -- the program ends in one of these ways

@@ -26,7 +26,7 @@ use Rattle.planner.specs.Plans.{fault_of, IsPlan}
 use Rattle.text_lines.specs.Lines.{line}
 use Rattle.plan_text.specs.Texts.{plan_text}
 use Rattle.steady_top.specs.Audits.{IsAudit, IsSound, IsUnsound}
-use Rattle.steady_top.specs.Refusals.{Refusal, usage, refused, no_platform, long_certificate, certificate_line, negative_price, uncovered_column, passed_value, check_overflow, long_plan, cannot_read, no_memory, platform_refusal, timed_refusal, plan_refusal}
+use Rattle.steady_top.specs.Refusals.{Reason, Refusal, usage, refused, no_platform, no_ticks, long_certificate, certificate_line, negative_price, uncovered_column, passed_value, check_overflow, long_plan, cannot_read, no_memory, platform_refusal, timed_refusal, plan_refusal}
 
 -- the file that a command opens first
 abbrev pub first_name : Command → List ℕ
@@ -42,12 +42,18 @@ second_name (prices name series pivots) = name
 second_name (check name certificate series) = certificate
 second_name (audit name other periods) = other
 
--- how many files a command opens where none refuses
+-- how many files a command opens where nothing refuses
 abbrev pub files_of : Command → ℕ
 files_of (plan name series pivots) = 1
 files_of (prices name series pivots) = 1
 files_of (check name certificate series) = 2
 files_of (audit name other periods) = 2
+
+-- how many files it has opened where what was read is refused: a reason of the platform or of its ticks stands behind the first one alone
+abbrev pub files_for : Command → Reason → ℕ
+files_for command (no_platform fault) = 1
+files_for command (no_ticks fault) = 1
+files_for command reason = files_of command
 
 -- the program prints these bytes, prints the plan of a platform that is found with at most so many pivots, audits the bytes of a plan over
 -- so many periods, or refuses
@@ -67,7 +73,7 @@ abbrev pub with_platform : (TimedView → Outcome) → Result PlatformView Platf
 with_platform next (Err fault) = refuses (platform_refusal fault)
 with_platform next (Ok p) = with_timed next (timed_of p)
 
--- what comes of the bytes of a platform file; of a longer one no more is read than one byte more than the limit
+-- what comes of the bytes of a platform file; the length of a longer one is told as one more than the limit
 abbrev pub with_file : (TimedView → Outcome) → List ℕ → Outcome
 with_file next bytes = cond (nat_lt most_bytes (length bytes)) (refuses (refused (no_platform (Limit Text (most_bytes + 1))))) (with_platform next (platform_of bytes))
 
@@ -141,7 +147,7 @@ judged_reading t (Ok c) = judged t c (verdict_of (tasking_programme t) c)
 judged_reading t (Err (text.Line number)) = refuses (refused (certificate_line number))
 judged_reading t (Err text.NoMemory) = refuses no_memory
 
--- what comes of the bytes of a certificate; of a longer one no more is read than one byte more than the limit
+-- what comes of the bytes of a certificate
 abbrev pub check_of_file : TimedView → List ℕ → Outcome
 check_of_file t bytes = cond (nat_lt most_bytes (length bytes)) (refuses (refused long_certificate)) (judged_reading t (certificate_of Tasking (length (tasking_programme t).rows) bytes))
 
@@ -154,7 +160,7 @@ check_of_name name (Some bytes) t = check_of_file t bytes
 abbrev pub most_plan_bytes : ℕ
 most_plan_bytes = 4194304
 
--- what comes of the bytes of a plan; of a longer one no more is read than one byte more than the limit
+-- what comes of the bytes of a plan
 abbrev pub audit_of_file : ℕ → TimedView → List ℕ → Outcome
 audit_of_file periods t bytes = cond (nat_lt most_plan_bytes (length bytes)) (refuses (refused long_plan)) (audits periods t bytes)
 

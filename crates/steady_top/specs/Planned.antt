@@ -1,5 +1,6 @@
 -- What reading a named file comes to: a platform's, and a certificate's or a plan's behind it (this project).
-use Rattle.std.specs.Prelude.{◌≡◌, ℕ, ◌+◌, ◌*◌, ◌≤◌, ◌⊎◌, nat_abs, List, length, Some, Ok}
+use Rattle.std.specs.Prelude.{◌≡◌, ℕ, ◌+◌, ◌*◌, ◌≤◌, ◌⊎◌, true, nat_abs, List, length, Some, Ok}
+use Rattle.command_words.specs.Words.{Command}
 use Rattle.outside_io.specs.Files.{FilesView, HasCause}
 use Rattle.outside_io.specs.Reading.{MayPass}
 use Rattle.platform_file.specs.Reading.{most_bytes}
@@ -17,8 +18,8 @@ use Rattle.planner.specs.Plans.{IsPlan}
 use Rattle.planner.specs.Prices.{prices_of, IsBestCertificate}
 use Rattle.plan_text.specs.Texts.{plan_text}
 use Rattle.period_table.specs.Best.{IsBest}
-use Rattle.steady_top.specs.Refusals.{Reason, Refusal, usage, refused, cannot_read, no_memory, files_for}
-use Rattle.steady_top.specs.Outcomes.{Outcome, refuses, IsRefusal, with_file, judged_reading, upper_text, most_plan_bytes}
+use Rattle.steady_top.specs.Refusals.{Reason, Refusal, usage, refused, cannot_read, no_memory}
+use Rattle.steady_top.specs.Outcomes.{Outcome, files_of, files_for, refuses, IsRefusal, with_file, judged_reading, upper_text, most_plan_bytes}
 use Rattle.schedule_model.specs.declared.schedule.Series.{Series}
 use Rattle.schedule_model.specs.declared.schedule.Schedule.{Schedule}
 use Rattle.period_table.specs.declared.table.Table.{Table}
@@ -31,11 +32,12 @@ use Rattle.steady_top.specs.Answers.{MayBe, AreOpened, IsPlatformOf}
 -- memory ran out
 abbrev pub UnreadCause : FilesView → List ℕ → ℕ → Refusal → FilesView → Refusal → Type 0
 UnreadCause before name most long after refusal =
-    ((refusal ≡ cannot_read name) × HasCause before name after) ⊎ (((refusal ≡ long) × MayPass (before.held name) most) ⊎ (refusal ≡ no_memory))
+    ((refusal ≡ cannot_read name) × HasCause before name after) ⊎ (((refusal ≡ long) × MayPass (before.held name) most) ⊎ ((refusal ≡ no_memory) × (after.faults ≡ before.faults)))
 
--- why the bytes of a file aren't read, in one open
+-- why the bytes of a file aren't read, in one open; of a file that was opened at most one byte more than the limit is taken
 pub record IsUnread (before : FilesView) (name : List ℕ) (most : ℕ) (long : Refusal) (after : FilesView) (refusal : Refusal) : Type 0 where
   pub opens : AreOpened 1 before after
+  pub taken : after.ready ≡ true → after.taken ≤ most + 1
   pub cause : UnreadCause before name most long after refusal
 
 -- the platform of the file was read and brought into ticks, in one open
@@ -51,7 +53,7 @@ pub record IsFileRefused (before : FilesView) (name : List ℕ) (reason : Reason
   pub bytes : List ℕ
   pub file : MayBe (before.held name) (Some bytes)
   pub outcome : (next : TimedView → Outcome) → with_file next bytes ≡ refuses (refused reason)
-  pub first : files_for reason ≡ 1
+  pub first : (command : Command) → files_for command reason ≡ 1
 
 -- the file can't be opened or read
 pub record IsFileFault (before : FilesView) (name : List ℕ) (after : FilesView) (named : List ℕ) : Type 0 where
@@ -61,7 +63,7 @@ pub record IsFileFault (before : FilesView) (name : List ℕ) (after : FilesView
 -- why a platform file isn't read: by the file alone, never by the words
 abbrev pub PlatformCause : FilesView → List ℕ → FilesView → Refusal → Type 0
 PlatformCause before name after (cannot_read named) = IsFileFault before name after named
-PlatformCause before name after no_memory = Unit {0}
+PlatformCause before name after no_memory = after.faults ≡ before.faults
 PlatformCause before name after usage = ⊥
 PlatformCause before name after (refused reason) = IsFileRefused before name reason
 
@@ -82,12 +84,12 @@ pub record IsSecondRefused (outcome : List ℕ → Outcome) (before : FilesView)
   pub bytes : List ℕ
   pub file : MayBe (before.held name) (Some bytes)
   pub refusal : IsRefusal (outcome bytes) (refused reason)
-  pub second : files_for reason ≡ 2
+  pub second : (command : Command) → files_for command reason ≡ files_of command
 
 -- why nothing comes of a second file
 abbrev pub SecondCause : (List ℕ → Outcome) → FilesView → List ℕ → FilesView → Refusal → Type 0
 SecondCause outcome before name after (cannot_read named) = IsFileFault before name after named
-SecondCause outcome before name after no_memory = Unit {0}
+SecondCause outcome before name after no_memory = after.faults ≡ before.faults
 SecondCause outcome before name after usage = ⊥
 SecondCause outcome before name after (refused reason) = IsSecondRefused outcome before name reason
 

@@ -14,7 +14,7 @@ returns-in_err-bytes g c =
     let outcome = audit_of_file c.args.periods t in
     of_error (λ text. IsAudited t c.args.periods before c.args.name.now after (string_bytes text)) c.from_residual.result c.from_residual.ensures.0 c.from_residual.ensures.1
     (λ e is. subst (λ fault. IsSecondFault outcome before c.args.name.now after (refusal_of fault)) (sym is)
-    (unread_is_second outcome before after c.args.name.now most_plan_bytes long_plan (long_plan_refused t c.args.periods) refl (refusal_of c.in_err-bytes.field-0.0) c.in_err-bytes.ensures))
+    (unread_is_second outcome before after c.args.name.now most_plan_bytes long_plan (long_plan_refused t c.args.periods) (λ command. refl) (refusal_of c.in_err-bytes.field-0.0) c.in_err-bytes.ensures))
 
 pub returns : goal.returns
 returns g c =

@@ -15,7 +15,7 @@ returns-in_err-bytes g c =
     let outcome = check_of_file t in
     of_error (λ text. IsChecked t before c.args.name.now after (string_bytes text)) c.from_residual.result c.from_residual.ensures.0 c.from_residual.ensures.1
     (λ e is. subst (λ fault. IsSecondFault outcome before c.args.name.now after (refusal_of fault)) (sym is)
-    (unread_is_second outcome before after c.args.name.now most_bytes long_certificate (long_is_refused t) refl (refusal_of c.in_err-bytes.field-0.0) c.in_err-bytes.ensures))
+    (unread_is_second outcome before after c.args.name.now most_bytes long_certificate (long_is_refused t) (λ command. refl) (refusal_of c.in_err-bytes.field-0.0) c.in_err-bytes.ensures))
 
 pub returns : goal.returns
 returns g c =

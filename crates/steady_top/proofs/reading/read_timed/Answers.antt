@@ -12,7 +12,7 @@ pub returns-in_err-platform : goal.returns-in_err-platform
 returns-in_err-platform g c =
     let cause = rw c.deref.ensures.value at c.in_err-platform.ensures in
     of_error _ c.from_residual-in_err-platform.result c.from_residual-in_err-platform.ensures.0 c.from_residual-in_err-platform.ensures.1
-    (λ e is. fault_is_platform (g.F.Files.state c.args.files.now) _ c.args.name.now c.in_ok-bytes.bytes.items (read_may_be _ _ c.in_ok-bytes.ensures.file) c.in_ok-bytes.ensures.within c.in_ok-bytes.ensures.one_open.opens c.in_err-platform.field-0.0 (refusal_of e) cause is)
+    (λ e is. fault_is_platform (g.F.Files.state c.args.files.now) _ c.args.name.now c.in_ok-bytes.bytes.items (read_may_be _ _ c.in_ok-bytes.ensures.file) c.in_ok-bytes.ensures.within c.in_ok-bytes.ensures.one_open.opens c.in_ok-bytes.ensures.faults c.in_err-platform.field-0.0 (refusal_of e) cause is)
 
 pub returns : goal.returns
 returns g c =
