@@ -28,6 +28,14 @@ check_app = with_rule (with_rule (with_rule (bare_app (codes "check")) (name_rul
 abbrev pub audit_app : App
 audit_app = with_rule (with_rule (with_rule (bare_app (codes "audit")) (name_rule (codes "FILE"))) (name_rule (codes "PLAN"))) (option_rule (codes "periods"))
 
+-- what clap is to read of the words that a word is the first of, if it names a command
+abbrev pub app_named : Text → Option App
+app_named word =
+    cond (bytes_eq word (codes "plan")) (Some (plan_app (codes "plan")))
+    (cond (bytes_eq word (codes "prices")) (Some (plan_app (codes "prices")))
+    (cond (bytes_eq word (codes "check")) (Some check_app)
+    (cond (bytes_eq word (codes "audit")) (Some audit_app) None)))
+
 -- what a command finds in words, where it refuses none of them
 abbrev pub unless_refused : Kinds → List Row → Option (List Row)
 unless_refused [] rows = Some rows
@@ -70,6 +78,14 @@ abbrev pub audit_of : List Row → Option Command
 audit_of rows =
     option_and_then (λ file. option_and_then (λ other. option_map (audit file other)
     (number_given 1000000 4 (first_of (codes "periods") rows))) (first_of (codes "PLAN") rows)) (first_of (codes "FILE") rows)
+
+-- the command that a word names, with what was found of it
+abbrev pub command_with : Text → List Row → Option Command
+command_with word rows =
+    cond (bytes_eq word (codes "plan")) (with_pivots plan rows)
+    (cond (bytes_eq word (codes "prices")) (with_pivots prices rows)
+    (cond (bytes_eq word (codes "check")) (check_of rows)
+    (cond (bytes_eq word (codes "audit")) (audit_of rows) None)))
 
 -- the command of the words, whose first one names it
 abbrev pub command_named : Text → List Text → Option Command

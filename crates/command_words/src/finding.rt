@@ -1,8 +1,8 @@
 //! What clap finds in the words of each command.
 
-ghost use Rattle.std.specs.Prelude.{◌≡◌, ◌≢◌, ◌⊎◌, Some, None, true, false, map, IfOk, IfErr, codes, string_bytes};
-ghost use Rattle.clap.specs.Words.{app_of, rule_of, rows_of, found_of, is_simple, is_simple_and_free};
-ghost use Rattle.command_words.specs.Words.{name_rule, option_rule, bare_app, plan_app, check_app, audit_app, found_in};
+ghost use Rattle.std.specs.Prelude.{◌≡◌, ◌≢◌, Some, None, true, false, map, option_map, IfOk, IfErr, string_bytes};
+ghost use Rattle.clap.specs.Words.{app_of, rule_of, rows_of, found_of, is_simple_and_free};
+ghost use Rattle.command_words.specs.Words.{name_rule, option_rule, bare_app, plan_app, check_app, audit_app, app_named, found_in};
 
 use crate::command::WordsFault;
 use clap::error::ErrorKind;
@@ -45,9 +45,11 @@ fn fault_of(kind: ErrorKind) -> WordsFault
 }
 
 /// What a command finds in words. What it refuses for another cause than memory is no command.
-fn found_by<'a>(command: Command<'a>, words: &'a [String]) -> Result<ArgMatches<'a>, WordsFault>
-    requires simple { is_simple (app_of command) ≡ true }
-    requires free { is_simple_and_free (app_of command) ≡ true }
+pub(crate) fn found_by<'a>(
+    command: Command<'a>,
+    words: &'a [String],
+) -> Result<ArgMatches<'a>, WordsFault>
+    requires { is_simple_and_free (app_of command) ≡ true }
     ensures ok { IfOk result (λ m. found_in (app_of command.entry) (map string_bytes words.entry.now) ≡ Some (rows_of (found_of m))) }
     ensures err { IfErr result
         (λ fault. fault ≡ WordsFault.Usage → found_in (app_of command.entry) (map string_bytes words.entry.now) ≡ None) }
@@ -88,52 +90,15 @@ fn audit_command<'a>(alloc: Global) -> Result<Command<'a>, AllocError>
         .arg(option(alloc, "periods"))
 }
 
-/// What `plan` finds.
-#[tactic(auto, using(crate::proofs::Apps::plan_simple, crate::proofs::Apps::plan_free))]
-pub(crate) fn found_by_plan<'a>(
-    alloc: Global,
-    words: &'a [String],
-) -> Result<ArgMatches<'a>, WordsFault>
-    ensures ok { IfOk result (λ m. found_in (plan_app (codes "plan")) (map string_bytes words.entry.now) ≡ Some (rows_of (found_of m))) }
-    ensures err { IfErr result
-        (λ fault. fault ≡ WordsFault.Usage → found_in (plan_app (codes "plan")) (map string_bytes words.entry.now) ≡ None) }
+/// What clap is to read of the words of a command.
+pub(crate) fn clap_command<'a>(alloc: Global, word: &str) -> Result<Option<Command<'a>>, AllocError>
+    ensures { IfOk result (λ found. option_map app_of found ≡ app_named word.now) }
 {
-    found_by(plan_command(alloc, "plan")?, words)
-}
-
-/// What `prices` finds.
-#[tactic(auto, using(crate::proofs::Apps::prices_simple, crate::proofs::Apps::prices_free))]
-pub(crate) fn found_by_prices<'a>(
-    alloc: Global,
-    words: &'a [String],
-) -> Result<ArgMatches<'a>, WordsFault>
-    ensures ok { IfOk result (λ m. found_in (plan_app (codes "prices")) (map string_bytes words.entry.now) ≡ Some (rows_of (found_of m))) }
-    ensures err { IfErr result
-        (λ fault. fault ≡ WordsFault.Usage → found_in (plan_app (codes "prices")) (map string_bytes words.entry.now) ≡ None) }
-{
-    found_by(plan_command(alloc, "prices")?, words)
-}
-
-/// What `check` finds.
-#[tactic(auto, using(crate::proofs::Apps::check_simple, crate::proofs::Apps::check_free))]
-pub(crate) fn found_by_check<'a>(
-    alloc: Global,
-    words: &'a [String],
-) -> Result<ArgMatches<'a>, WordsFault>
-    ensures ok { IfOk result (λ m. found_in check_app (map string_bytes words.entry.now) ≡ Some (rows_of (found_of m))) }
-    ensures err { IfErr result (λ fault. fault ≡ WordsFault.Usage → found_in check_app (map string_bytes words.entry.now) ≡ None) }
-{
-    found_by(check_command(alloc)?, words)
-}
-
-/// What `audit` finds.
-#[tactic(auto, using(crate::proofs::Apps::audit_simple, crate::proofs::Apps::audit_free))]
-pub(crate) fn found_by_audit<'a>(
-    alloc: Global,
-    words: &'a [String],
-) -> Result<ArgMatches<'a>, WordsFault>
-    ensures ok { IfOk result (λ m. found_in audit_app (map string_bytes words.entry.now) ≡ Some (rows_of (found_of m))) }
-    ensures err { IfErr result (λ fault. fault ≡ WordsFault.Usage → found_in audit_app (map string_bytes words.entry.now) ≡ None) }
-{
-    found_by(audit_command(alloc)?, words)
+    Ok(Some(match word {
+        "plan" => plan_command(alloc, "plan")?,
+        "prices" => plan_command(alloc, "prices")?,
+        "check" => check_command(alloc)?,
+        "audit" => audit_command(alloc)?,
+        _ => return Ok(None),
+    }))
 }

@@ -1,12 +1,12 @@
 //! The command of words.
 
-ghost use Rattle.std.specs.Prelude.{◌≡◌, Some, None, map, option_map, option_and_then, codes, string_bytes, MatchResult};
-ghost use Rattle.clap.specs.Words.{first_of, rows_of, found_of};
-ghost use Rattle.command_words.specs.Words.{plan, prices, plan_app, check_app, audit_app, found_in, command_of, series_given, number_given, with_pivots, check_of, audit_of};
+ghost use Rattle.std.specs.Prelude.{◌≡◌, ℕ, Some, map, option_map, string_bytes, MatchResult};
+ghost use Rattle.clap.specs.Words.{Text, first_of, rows_of, found_of};
+ghost use Rattle.command_words.specs.Words.{Command as Meaning, command_of, series_given, number_given, with_pivots, check_of, audit_of, command_with};
 ghost use Rattle.command_words.specs.Meanings.{meaning_of, IsWordsFault};
 
 use crate::command::{Command, WordsFault};
-use crate::finding::{found_by_audit, found_by_check, found_by_plan, found_by_prices};
+use crate::finding::{clap_command, found_by};
 use clap::ArgMatches;
 use schedule_model::Series;
 use std::alloc::Global;
@@ -52,26 +52,15 @@ fn text_of<'a>(matches: &ArgMatches<'a>, id: &str) -> Option<&'a str>
     matches.get_str(id)
 }
 
-/// `plan`, with what was found of it.
-fn plan_of<'a>(matches: &ArgMatches<'a>) -> Option<Command<'a>>
-    ensures { option_map meaning_of result ≡ with_pivots plan (rows_of (found_of matches.now)) }
+/// A file, a series and a bound on pivots, as `plan` and `prices` have them.
+fn pivots_of<'a>(matches: &ArgMatches<'a>) -> Option<(&'a str, Series, u64)>
+    ensures { (make : Text → Series → ℕ → Meaning)
+        → option_map (λ given. make given.0.now given.1 given.2) result ≡ with_pivots make (rows_of (found_of matches.now)) }
 {
-    Some(Command::Plan {
-        file: text_of(matches, "FILE")?,
-        series: series_given(text_of(matches, "series"))?,
-        pivots: number_given(text_of(matches, "pivots"), MOST_PIVOTS, PIVOTS)?,
-    })
-}
-
-/// `prices`, with what was found of it.
-fn prices_of<'a>(matches: &ArgMatches<'a>) -> Option<Command<'a>>
-    ensures { option_map meaning_of result ≡ with_pivots prices (rows_of (found_of matches.now)) }
-{
-    Some(Command::Prices {
-        file: text_of(matches, "FILE")?,
-        series: series_given(text_of(matches, "series"))?,
-        pivots: number_given(text_of(matches, "pivots"), MOST_PIVOTS, PIVOTS)?,
-    })
+    let file = text_of(matches, "FILE")?;
+    let series = series_given(text_of(matches, "series"))?;
+    let pivots = number_given(text_of(matches, "pivots"), MOST_PIVOTS, PIVOTS)?;
+    Some((file, series, pivots))
 }
 
 /// `check`, with what was found of it.
@@ -96,47 +85,31 @@ fn audit_of<'a>(matches: &ArgMatches<'a>) -> Option<Command<'a>>
     })
 }
 
-/// What the words of `plan` give.
-fn plan_in(alloc: Global, words: &[String]) -> Result<Command<'_>, WordsFault>
-    ensures { MatchResult result
-        (λ command. option_and_then (with_pivots plan) (found_in (plan_app (codes "plan")) (map string_bytes words.now)) ≡ Some (meaning_of command))
-        (λ fault. fault ≡ WordsFault.Usage
-            → option_and_then (with_pivots plan) (found_in (plan_app (codes "plan")) (map string_bytes words.now)) ≡ None) }
+/// The command that a word names, with what was found of it.
+fn command_with<'a>(word: &str, matches: &ArgMatches<'a>) -> Option<Command<'a>>
+    ensures { option_map meaning_of result ≡ command_with word.now (rows_of (found_of matches.now)) }
 {
-    let matches = found_by_plan(alloc, words)?;
-    plan_of(&matches).ok_or(WordsFault::Usage)
-}
-
-/// What the words of `prices` give.
-fn prices_in(alloc: Global, words: &[String]) -> Result<Command<'_>, WordsFault>
-    ensures { MatchResult result
-        (λ command. option_and_then (with_pivots prices) (found_in (plan_app (codes "prices")) (map string_bytes words.now))
-            ≡ Some (meaning_of command))
-        (λ fault. fault ≡ WordsFault.Usage
-            → option_and_then (with_pivots prices) (found_in (plan_app (codes "prices")) (map string_bytes words.now)) ≡ None) }
-{
-    let matches = found_by_prices(alloc, words)?;
-    prices_of(&matches).ok_or(WordsFault::Usage)
-}
-
-/// What the words of `check` give.
-fn check_in(alloc: Global, words: &[String]) -> Result<Command<'_>, WordsFault>
-    ensures { MatchResult result
-        (λ command. option_and_then check_of (found_in check_app (map string_bytes words.now)) ≡ Some (meaning_of command))
-        (λ fault. fault ≡ WordsFault.Usage → option_and_then check_of (found_in check_app (map string_bytes words.now)) ≡ None) }
-{
-    let matches = found_by_check(alloc, words)?;
-    check_of(&matches).ok_or(WordsFault::Usage)
-}
-
-/// What the words of `audit` give.
-fn audit_in(alloc: Global, words: &[String]) -> Result<Command<'_>, WordsFault>
-    ensures { MatchResult result
-        (λ command. option_and_then audit_of (found_in audit_app (map string_bytes words.now)) ≡ Some (meaning_of command))
-        (λ fault. fault ≡ WordsFault.Usage → option_and_then audit_of (found_in audit_app (map string_bytes words.now)) ≡ None) }
-{
-    let matches = found_by_audit(alloc, words)?;
-    audit_of(&matches).ok_or(WordsFault::Usage)
+    match word {
+        "plan" => {
+            let (file, series, pivots) = pivots_of(matches)?;
+            Some(Command::Plan {
+                file,
+                series,
+                pivots,
+            })
+        }
+        "prices" => {
+            let (file, series, pivots) = pivots_of(matches)?;
+            Some(Command::Prices {
+                file,
+                series,
+                pivots,
+            })
+        }
+        "check" => check_of(matches),
+        "audit" => audit_of(matches),
+        _ => None,
+    }
 }
 
 /// The command that the words give: `plan FILE` and `prices FILE` with `--series` and `--pivots`, `check FILE CERTIFICATE` with
@@ -153,15 +126,9 @@ pub fn command_in(alloc: Global, words: &[String]) -> Result<Command<'_>, WordsF
     let Some(word) = words.first() else {
         return Err(WordsFault::Usage);
     };
-    if word.as_str() == "plan" {
-        plan_in(alloc, words)
-    } else if word.as_str() == "prices" {
-        prices_in(alloc, words)
-    } else if word.as_str() == "check" {
-        check_in(alloc, words)
-    } else if word.as_str() == "audit" {
-        audit_in(alloc, words)
-    } else {
-        Err(WordsFault::Usage)
-    }
+    let Some(command) = clap_command(alloc, word)? else {
+        return Err(WordsFault::Usage);
+    };
+    let matches = found_by(command, words)?;
+    command_with(word, &matches).ok_or(WordsFault::Usage)
 }
