@@ -1,0 +1,36 @@
+use Rattle.std.proofs.Common.{◌≡◌, [], drop, vec_items, refl}
+use Rattle.std.specs.Vec.Iter.{into_iter_items}
+use Rattle.std.specs.IoError.{error_kind}
+use Rattle.std.specs.declared.io.ErrorKind.ErrorKind.TheVariants as kind
+use Rattle.steady_top.specs.declared.fault.TopFault.TheVariants as top
+use Rattle.steady_top.specs.Refusals.{usage, no_memory}
+use Rattle.steady_top.specs.Answers.{call_of}
+use Rattle.steady.proofs.Runs.{memory_lost, is_usage, is_memory, memory_ends, wordless_ends, ok_then, err_then}
+use Rattle.steady.proofs.run.Goals as goal
+
+pub returns-in-Err-clause-words : goal.returns-in-Err-clause-words
+returns-in-Err-clause-words g c =
+    let files = g.F.Files.state c.args.files.now in
+    let out = g.S.Sink.state c.args.out.now in
+    let written = g.S.Sink.state c.refuse.new.out in
+    ok_then c.args.arguments
+    (λ all is. memory_ends (call_of (drop 1 (into_iter_items all)) files files out written) c.refuse.result c.in-Err.fault c.code-in-Err.result refl c.refuse.ensures c.code-in-Err.ensures is)
+    (memory_lost (λ all words. vec_items words ≡ drop 1 (into_iter_items all)) (λ error. error_kind error ≡ kind.OutOfMemory) c.args.arguments c.in-Err.fault c.in-Err.ensures)
+
+pub returns-in-Err-clause-no_words : goal.returns-in-Err-clause-no_words
+returns-in-Err-clause-no_words g c =
+    let files = g.F.Files.state c.args.files.now in
+    let out = g.S.Sink.state c.args.out.now in
+    let written = g.S.Sink.state c.refuse.new.out in
+    err_then c.args.arguments
+    (λ error given other. wordless_ends usage (call_of [] files files out written) c.refuse.result c.in-Err.fault top.Usage c.code-in-Err.result refl c.refuse.ensures c.code-in-Err.ensures refl (given other))
+    (is_usage (λ all words. vec_items words ≡ drop 1 (into_iter_items all)) (λ error. error_kind error ≡ kind.OutOfMemory) c.args.arguments c.in-Err.fault c.in-Err.ensures)
+
+pub returns-in-Err-clause-no_memory : goal.returns-in-Err-clause-no_memory
+returns-in-Err-clause-no_memory g c =
+    let files = g.F.Files.state c.args.files.now in
+    let out = g.S.Sink.state c.args.out.now in
+    let written = g.S.Sink.state c.refuse.new.out in
+    err_then c.args.arguments
+    (λ error given memory. wordless_ends no_memory (call_of [] files files out written) c.refuse.result c.in-Err.fault top.NoMemory c.code-in-Err.result refl c.refuse.ensures c.code-in-Err.ensures refl (given memory))
+    (is_memory (λ all words. vec_items words ≡ drop 1 (into_iter_items all)) (λ error. error_kind error ≡ kind.OutOfMemory) c.args.arguments c.in-Err.fault c.in-Err.ensures)
