@@ -51,6 +51,7 @@ HasCause before name after = MayFail (before.held name) before.faults after.faul
 -- the name was not opened
 pub record IsNotOpened (before : FilesView) (name : List ℕ) (after : FilesView) : Type 0 where
   pub cause : HasCause before name after
+  pub taken : after.taken ≡ 0
   pub ready : after.ready ≡ false
   pub opens : after.opens ≡ raised before.opens 1
   pub held : (other : List ℕ) → after.held other ≡ before.held other

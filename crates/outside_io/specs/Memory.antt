@@ -1,6 +1,7 @@
 -- Files and a sink in memory, which fail the calls that they are told to fail.
-use Rattle.std.specs.Prelude.{ℕ, Bool, List, [], ◌∷◌, Option, Some, cond, nat_eq, bytes_eq}
+use Rattle.std.specs.Prelude.{◌≡◌, ℕ, Bool, List, [], ◌∷◌, Option, Some, cond, nat_eq, bytes_eq}
 use Rattle.std.specs.List.{list_any}
+use Rattle.outside_io.specs.Faults.{raised}
 use Rattle.outside_io.specs.Files.{Told, absent, contents, FilesView}
 use Rattle.outside_io.specs.Sinks.{SinkView}
 
@@ -35,6 +36,12 @@ files_state files = record {
   opens = files.opens;
 }
 
+-- a call on files was counted, and what they contain and which calls fail stays
+pub record IsFilesCall (before after : MemoryFilesView) : Type 0 where
+  pub calls : after.calls ≡ raised before.calls 1
+  pub failing : after.failing ≡ before.failing
+  pub entries : after.entries ≡ before.entries
+
 -- the call with this number is to fail
 abbrev pub is_listed : ℕ → List ℕ → Bool
 is_listed call failing = list_any (λ listed. nat_eq listed call) failing
@@ -51,6 +58,12 @@ pub record MemorySinkView : Type 0 where
   -- how many writes there were
   pub calls : ℕ
   pub faults : ℕ
+
+-- a call on a sink was counted, and how much it takes and which calls fail stays
+pub record IsSinkCall (before after : MemorySinkView) : Type 0 where
+  pub calls : after.calls ≡ raised before.calls 1
+  pub failing : after.failing ≡ before.failing
+  pub most : after.most ≡ before.most
 
 -- what it tells: everything that was written
 abbrev pub sink_state : MemorySinkView → SinkView

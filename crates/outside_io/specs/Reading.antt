@@ -17,6 +17,12 @@ MayPass untold most = Unit {0}
 MayPass absent most = ⊥
 MayPass (contents file) most = most < length file
 
+-- the most bytes that are taken of a file that isn't read to its end, by the reason
+abbrev pub most_taken : ℕ → ReadEnd → ℕ
+most_taken most Failed = most
+most_taken most Longer = most + 1
+most_taken most NoMemory = most + 1
+
 -- of the current file, from its first byte on: the bytes are all of it
 pub record IsReadOut (before : FilesView) (most : ℕ) (bytes : List ℕ) (after : FilesView) : Type 0 where
   pub same : SameFile before after
@@ -35,6 +41,7 @@ OutCause before most NoMemory after = after.faults ≡ before.faults
 pub record IsNotReadOut (before : FilesView) (most : ℕ) (end : ReadEnd) (after : FilesView) : Type 0 where
   pub same : SameFile before after
   pub cause : OutCause before most end after
+  pub taken : after.taken ≤ most_taken most end
   pub never_falls : before.faults ≤ after.faults
 
 -- one open, and nothing else that a caller could see but bytes taken and faults
@@ -67,3 +74,4 @@ EndCause before name most NoMemory after = after.faults ≡ before.faults
 pub record IsReadEnd (before : FilesView) (name : List ℕ) (most : ℕ) (end : ReadEnd) (after : FilesView) : Type 0 where
   pub one_open : OneOpen before after
   pub cause : EndCause before name most end after
+  pub taken : after.taken ≤ most_taken most end

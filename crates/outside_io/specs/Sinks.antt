@@ -13,7 +13,7 @@ pub record SinkView : Type 0 where
 abbrev pub Appends : SinkView → List ℕ → SinkView → Type 0
 Appends before bytes after = after.written ≡ option_map (λ old. old ++ bytes) before.written
 
--- a front of the bytes was taken, at least one byte where there is one
+-- a prefix of the bytes was taken, at least one byte where there is one
 pub record IsWritten (before : SinkView) (bytes : List ℕ) (count : ℕ) (after : SinkView) : Type 0 where
   pub within : count ≤ length bytes
   pub some : 0 < length bytes → 0 < count
@@ -31,8 +31,8 @@ pub record IsWholeWritten (before : SinkView) (bytes : List ℕ) (after : SinkVi
   pub appends : Appends before bytes after
   pub faults : after.faults ≡ before.faults
 
--- a call failed, and a front of the bytes was written
+-- a call failed, and a prefix of the bytes was written
 pub record IsCutOff (before : SinkView) (bytes : List ℕ) (after : SinkView) : Type 0 where
-  pub front : (count : ℕ) × Appends before (take count bytes) after
+  pub prefix : (count : ℕ) × Appends before (take count bytes) after
   pub cause : Rose before.faults after.faults
   pub never_falls : before.faults ≤ after.faults

@@ -14,7 +14,7 @@ pub trait Files: Drop {
     ghost state: { Self → FilesView };
 
     /// Makes the named file the current one, at its first byte. `Failed` comes only where the count of faults rose, or where
-    /// the object tells that there is no such file.
+    /// the object tells that there is no such file; then no file is the current one, and no byte is taken.
     fn open(&mut self, name: &str) -> Result<(), Failed>
         ensures { MatchResult result
             (λ _. IsOpened (state self.old) name.now (state self.new))
@@ -100,7 +100,8 @@ fn read_to_end<F: Files>(alloc: Global, files: &mut F, most: u64) -> Result<Vec<
 
 /// Opens the named file and reads it to its end: at most `most` bytes, else `Longer` after `most + 1` bytes.
 ///
-/// Each read asks for the lesser of 65,536 bytes and what is missing of `most + 1`.
+/// Each read asks for the lesser of 65,536 bytes and what is missing of `most + 1`. So no byte behind these is ever taken, nor is the last
+/// one of them before `Failed`.
 pub fn read_whole<F: Files>(
     alloc: Global,
     files: &mut F,

@@ -3,7 +3,7 @@
 ghost use Rattle.std.specs.Prelude.{◌≡◌, ◌⊎◌, ◌↔◌, ◌+◌, ◌<◌, ◌≤◌, ◌++◌, true, false, None, length, drop, map, slice_range, IfSome, IsErr, IsTrue, MatchResult, MatchOption};
 ghost use Rattle.outside_io.specs.Faults.{raised};
 ghost use Rattle.outside_io.specs.Files.{absent, contents, IsOpened, IsNotOpened, IsRead, IsNotRead};
-ghost use Rattle.outside_io.specs.Memory.{files_state, told_by, is_listed};
+ghost use Rattle.outside_io.specs.Memory.{files_state, told_by, is_listed, IsFilesCall};
 ghost use Rattle.outside_io.specs.Entries.{entry_view, place_bytes};
 
 use crate::files::Files;
@@ -108,6 +108,7 @@ impl Files for MemoryFiles {
             (λ _. IsOpened (files_state self.old) name.now (files_state self.new))
             (λ _. IsNotOpened (files_state self.old) name.now (files_state self.new)) }
         ensures exact { IsErr result ↔ (IsTrue (is_listed self.old.calls self.old.failing) ⊎ (told_by self.old.entries name.now ≡ absent)) }
+        ensures call { IsFilesCall self.old self.new }
     {
         let fails = self.is_to_fail();
         let place = place_of(&self.entries, name);
@@ -133,6 +134,7 @@ impl Files for MemoryFiles {
             (λ count. IsRead (files_state self.old) into.old into.new count (files_state self.new))
             (λ _. IsNotRead (files_state self.old) (files_state self.new)) }
         ensures exact { IsErr result ↔ IsTrue (is_listed self.old.calls self.old.failing) }
+        ensures call { IsFilesCall self.old self.new }
     {
         if self.is_to_fail() {
             self.faults = self.faults.saturating_add(1);

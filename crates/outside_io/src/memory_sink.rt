@@ -1,8 +1,8 @@
 //! A sink in memory.
 
-ghost use Rattle.std.specs.Prelude.{◌≡◌, ◌⊎◌, ◌↔◌, ◌<◌, ◌≤◌, [], length, min, OnOk, OnErr, IfOk, IsErr, IsTrue, MatchResult};
+ghost use Rattle.std.specs.Prelude.{◌≡◌, ◌-◌, ◌⊎◌, ◌↔◌, ◌<◌, ◌≤◌, [], length, min, max, OnOk, OnErr, IfOk, IsErr, IsTrue, MatchResult};
 ghost use Rattle.outside_io.specs.Sinks.{IsWritten, IsNotWritten};
-ghost use Rattle.outside_io.specs.Memory.{sink_state, is_listed};
+ghost use Rattle.outside_io.specs.Memory.{sink_state, is_listed, IsSinkCall};
 
 use crate::sink::{Failed, Sink};
 use listed::NoMemory;
@@ -15,13 +15,14 @@ use std::marker::Model;
 pub struct MemorySink {
     bytes: Vec<u8>,
     most: usize,
+    room: usize,
     failing: Vec<u64>,
     calls: u64,
     faults: u64,
 }
 
 impl Model for MemorySink {
-    ghost use Rattle.std.specs.Prelude.{◌-◌, ◌≤◌, vec_len, vec_capacity};
+    ghost use Rattle.std.specs.Prelude.{◌+◌, ◌≤◌, vec_len, vec_capacity};
     ghost use Rattle.outside_io.specs.Memory.{MemorySinkView};
 
     ghost Value = { MemorySinkView };
@@ -29,13 +30,13 @@ impl Model for MemorySink {
     ghost view = { λ a. record {
       written = a.bytes.items;
       most = a.most;
-      room = vec_capacity a.bytes - vec_len a.bytes;
+      room = a.room;
       failing = a.failing.items;
       calls = a.calls;
       faults = a.faults;
     } };
 
-    ghost invariant = { λ a. 1 ≤ a.most };
+    ghost invariant = { λ a. (1 ≤ a.most) × (vec_len a.bytes + a.room ≤ vec_capacity a.bytes) };
 }
 
 impl MemorySink {
@@ -47,23 +48,26 @@ impl MemorySink {
         ensures most { result.most ≡ most }
         ensures failing { result.failing ≡ failing.items }
         ensures counts { (result.calls ≡ 0) × (result.faults ≡ 0) }
+        ensures room { result.room ≡ 0 }
     {
         MemorySink {
             bytes: Vec::new(alloc),
             most,
+            room: 0,
             failing,
             calls: 0,
             faults: 0,
         }
     }
 
-    /// Makes room for so many more bytes. `NoMemory` leaves the room as it was.
+    /// Makes room for so many more bytes, where there is less. `NoMemory` leaves the room as it was.
     pub fn reserve(&mut self, bytes: usize) -> Result<(), NoMemory>
-        ensures room { OnOk result (bytes ≤ self.new.room) }
+        ensures room { OnOk result (self.new.room ≡ max self.old.room bytes) }
         ensures refused { OnErr result (self.new.room ≡ self.old.room) }
         ensures same { self.new ≡ record self.old { room = self.new.room } }
     {
         self.bytes.reserve(bytes)?;
+        self.room = self.room.max(bytes);
         Ok(())
     }
 
@@ -84,17 +88,21 @@ impl Sink for MemorySink {
             (λ _. IsNotWritten (sink_state self.old) (sink_state self.new)) }
         ensures count { IfOk result (λ count. count ≡ min (length bytes.now) (min self.old.most self.old.room)) }
         ensures exact { IsErr result ↔ (IsTrue (is_listed self.old.calls self.old.failing) ⊎ ((self.old.room ≡ 0) × (0 < length bytes.now))) }
+        ensures room { MatchResult result (λ count. self.new.room ≡ self.old.room - count) (λ _. self.new.room ≡ self.old.room) }
+        ensures call { IsSinkCall self.old self.new }
     {
         let call = self.calls;
         self.calls = self.calls.saturating_add(1);
-        let room = self.bytes.capacity() - self.bytes.len();
-        let count = bytes.len().min(self.most.min(room));
-        if self.failing.contains(&call) || (room == 0 && !bytes.is_empty()) {
+        let count = bytes.len().min(self.most.min(self.room));
+        if self.failing.contains(&call) || (self.room == 0 && !bytes.is_empty()) {
             self.faults = self.faults.saturating_add(1);
             return Err(Failed);
         }
         match self.bytes.extend_from_slice(&bytes[..count]) {
-            Ok(()) => Ok(count),
+            Ok(()) => {
+                self.room -= count;
+                Ok(count)
+            }
             Err(_) => unreachable!(),
         }
     }

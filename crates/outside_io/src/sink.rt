@@ -12,7 +12,7 @@ pub trait Sink: Drop {
     /// What is known of the object: what was written, where it tells that, and the count of faults.
     ghost state: { Self → SinkView };
 
-    /// Takes a front of the bytes, at least one where there is one, and answers how many. `Failed` takes nothing and comes
+    /// Takes a prefix of the bytes, at least one where there is one, and answers how many. `Failed` takes nothing and comes
     /// only where the count of faults rose.
     fn write(&mut self, bytes: &[u8]) -> Result<usize, Failed>
         ensures { MatchResult result
@@ -20,7 +20,7 @@ pub trait Sink: Drop {
             (λ _. IsNotWritten (state self.old) (state self.new)) };
 }
 
-/// Writes all of the bytes. After `Failed` a front of them is out, and the count of faults rose.
+/// Writes all of the bytes. After `Failed` a prefix of them is out, and the count of faults rose.
 pub fn write_whole<S: Sink>(out: &mut S, bytes: &[u8]) -> Result<(), Failed>
     ensures { MatchResult result
         (λ _. IsWholeWritten (S.state out.old) bytes.now (S.state out.new))

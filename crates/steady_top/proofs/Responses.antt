@@ -1,17 +1,18 @@
 -- What a response of the program says of each status.
-use Rattle.std.proofs.Common.{◌≡◌, ◌∙◌, ℕ, List, Option, Some, None, ◌⊎◌, inl, inr, refl, sym, ap, subst}
+use Rattle.std.proofs.Common.{◌≡◌, ◌∙◌, ◌≤◌, ℕ, List, Option, Some, None, ◌⊎◌, inl, inr, refl, sym, ap, subst, arith}
 use Rattle.outside_io.specs.Faults.{Rose}
 use Rattle.outside_io.specs.Files.{Told, untold, absent, contents, FilesView, MayFail}
-use Rattle.outside_io.specs.Sinks.{SinkView}
 use Rattle.planner.specs.declared.fault.PlanFault.TheVariants as plans
 use Rattle.steady_top.specs.declared.status.Status.{Status}
 use Rattle.steady_top.specs.declared.status.Status.TheVariants as status
-use Rattle.steady_top.specs.Refusals.{Reason, no_platform, no_ticks, no_plan, long_certificate, certificate_line, negative_price, uncovered_column, passed_value, check_overflow, long_plan, plan_line, long_operations, breach, Refusal, usage, refused, cannot_read, no_memory, reason_status, status_of, error_line}
+use Rattle.steady_top.specs.Refusals.{Reason, no_platform, no_ticks, no_plan, long_certificate, certificate_line, negative_price, uncovered_column, passed_value, check_overflow, long_plan, plan_line, long_operations, breach, Refusal, usage, refused, cannot_read, no_memory, reason_status, files_for, status_of, error_line}
 use Rattle.command_words.specs.Words.{Command, plan, prices, check, audit, command_of}
 use Rattle.platform_file.specs.Ticks.{TimedView}
-use Rattle.steady_top.specs.Outcomes.{first_name, second_name, Outcome, refuses, IsText, IsRefusal, work_of, outcome_for, outcome_of_command, outcome_of}
+use Rattle.steady_top.specs.Outcomes.{first_name, second_name, files_of, Outcome, refuses, IsText, IsRefusal, work_of, outcome_for, outcome_of_command, outcome_of}
 use Rattle.steady_top.proofs.Audited.{text_or_refusal, print_or_refusal, one_status}
-use Rattle.steady_top.specs.Answers.{MayBe, IsToldAs, AreToldAs, ComesTo, Opens, IsSecondFault, IsCauseFor, IsCause, IsPrinted, IsRefused, IsRefusedWith, IsCutShort, IsResponse}
+use Rattle.steady_top.specs.Answers.{MayBe, IsToldAs, AreNamesToldAs, AreToldAs, ComesTo, Opens, IsSecondUnread, IsOutOfMemory, IsCauseFor, IsCause, Call, IsPrinted, IsRefused, IsRefusedWith, IsCutShort, IsCalm, Ends, IsResponse, IsOneOf}
+use Rattle.steady_top.proofs.Works.{some_file}
+use Rattle.steady_top.specs.Ends.{IsEnd}
 
 -- the statuses of refusals of what was read
 abbrev pub IsOfReason : Status → Type 0
@@ -89,24 +90,21 @@ same_file absent holds read h k = h ∙ sym k
 same_file (contents bytes) holds read h k = h ∙ sym k
 
 -- what a command comes to is what the words come to, where the files tell all
-words_come_to : (words : List (List ℕ)) (before : FilesView) (holds : List ℕ → Option (List ℕ)) (command : Command) (outcome : Outcome) → AreToldAs before holds → command_of words ≡ Some command →
+words_come_to : (words : List (List ℕ)) (before : FilesView) (holds : List ℕ → Option (List ℕ)) (command : Command) (outcome : Outcome) → AreToldAs before words holds → command_of words ≡ Some command →
     ComesTo command before outcome → outcome_of words holds ≡ outcome
 words_come_to words before holds command outcome told given comes =
-    let first = same_file (before.held (first_name command)) (holds (first_name command)) comes.first (told (first_name command)) comes.first_told in
-    let second = same_file (before.held (second_name command)) (holds (second_name command)) comes.second (told (second_name command)) comes.second_told in
+    let names : AreNamesToldAs before command holds = told command given in
+    let first = same_file (before.held (first_name command)) (holds (first_name command)) comes.first names.0 comes.first_told in
+    let second = same_file (before.held (second_name command)) (holds (second_name command)) comes.second names.1 comes.second_told in
     ap (outcome_of_command holds) given ∙ ap (λ file. outcome_for command file (holds (second_name command))) first ∙ ap (outcome_for command comes.first) second ∙ comes.is
 
 -- the refusal is what the words come to, for all files that tell what they hold
 abbrev IsOutcome : List (List ℕ) → FilesView → Refusal → Type 0
-IsOutcome words before refusal = (holds : List ℕ → Option (List ℕ)) → AreToldAs before holds → IsRefusal (outcome_of words holds) refusal
+IsOutcome words before refusal = (holds : List ℕ → Option (List ℕ)) → AreToldAs before words holds → IsRefusal (outcome_of words holds) refusal
 
 -- what refuses is the refusal
 refuses_so : (outcome : Outcome) (refusal : Refusal) → outcome ≡ refuses refusal → IsRefusal outcome refusal
 refuses_so outcome refusal is = subst (λ o. IsRefusal o refusal) (sym is) refl
-
--- a name that is told to be absent holds nothing
-holds_nothing : (before : FilesView) (holds : List ℕ → Option (List ℕ)) (name : List ℕ) → before.held name ≡ absent → AreToldAs before holds → holds name ≡ None
-holds_nothing before holds name none told = rw none at (told name)
 
 no_fault : (told : Told) (before after : ℕ) → (Rose before after → ⊥) → MayFail told before after → told ≡ absent
 no_fault untold before after calm h = absurd (calm h)
@@ -116,7 +114,8 @@ no_fault (contents bytes) before after calm h = absurd (calm h)
 -- the first file is absent
 first_absent : (words : List (List ℕ)) (before : FilesView) (command : Command) (name : List ℕ) → command_of words ≡ Some command → name ≡ first_name command → before.held name ≡ absent → IsOutcome words before (cannot_read name)
 first_absent words before command name given is none holds told =
-    let nothing : holds (first_name command) ≡ None = subst (λ name. holds name ≡ None) is (holds_nothing before holds name none told) in
+    let names : AreNamesToldAs before command holds = told command given in
+    let nothing : holds (first_name command) ≡ None = subst (λ file. IsToldAs file (holds (first_name command))) (subst (λ name. before.held name ≡ absent) is none) names.0 in
     refuses_so (outcome_of words holds) (cannot_read name)
     (ap (outcome_of_command holds) given ∙ ap (λ file. outcome_for command file (holds (second_name command))) nothing ∙ ap (λ name. refuses (cannot_read name)) (sym is))
 
@@ -128,11 +127,13 @@ opens_second (check name certificate series) first second t opens = (opens.0, op
 opens_second (audit name other periods) first second t opens = (opens.0, opens.1, ap (λ n. refuses (cannot_read n)) opens.1)
 
 -- behind a platform that was read, the second file is absent
-second_absent : (words : List (List ℕ)) (before after : FilesView) (command : Command) (name : List ℕ) → command_of words ≡ Some command → IsSecondFault command before after name → before.held name ≡ absent → IsOutcome words before (cannot_read name)
+second_absent : (words : List (List ℕ)) (before after : FilesView) (command : Command) (name : List ℕ) → command_of words ≡ Some command → IsSecondUnread command before after name → before.held name ≡ absent → IsOutcome words before (cannot_read name)
 second_absent words before after command name given fault none holds told =
-    let opens = opens_second command fault.first name fault.timed fault.opens in
-    let nothing : holds (second_name command) ≡ None = ap holds opens.1 ∙ holds_nothing before holds name none told in
-    let first : holds (first_name command) ≡ Some fault.platform.bytes = ap holds opens.0 ∙ same_file (before.held fault.first) (holds fault.first) (Some fault.platform.bytes) (told fault.first) fault.platform.file in
+    let opens = opens_second command fault.first name fault.timed fault.pair in
+    let names : AreNamesToldAs before command holds = told command given in
+    let nothing : holds (second_name command) ≡ None = subst (λ file. IsToldAs file (holds (second_name command))) (ap before.held opens.1 ∙ none) names.1 in
+    let read : MayBe (before.held (first_name command)) (Some fault.platform.bytes) = subst (λ name. MayBe (before.held name) (Some fault.platform.bytes)) (sym opens.0) fault.platform.file in
+    let first : holds (first_name command) ≡ Some fault.platform.bytes = same_file (before.held (first_name command)) (holds (first_name command)) (Some fault.platform.bytes) names.0 read in
     refuses_so (outcome_of words holds) (cannot_read name)
     (ap (outcome_of_command holds) given
     ∙ ap (λ file. outcome_for command file (holds (second_name command))) first
@@ -154,13 +155,39 @@ cause_for_is_outcome words before after no_memory calm command given cause = inl
 
 cause_is_outcome : (words : List (List ℕ)) (before after : FilesView) (refusal : Refusal) → (Rose before.faults after.faults → ⊥) →
     IsCause words before after refusal → (refusal ≡ no_memory) ⊎ IsOutcome words before refusal
-cause_is_outcome words before after usage calm cause = inr (λ holds told. refuses_so (outcome_of words holds) usage (ap (outcome_of_command holds) cause))
+cause_is_outcome words before after usage calm cause = inr (λ holds told. refuses_so (outcome_of words holds) usage (ap (outcome_of_command holds) cause.0))
 cause_is_outcome words before after (refused reason) calm cause = cause_for_is_outcome words before after (refused reason) calm cause.command cause.given cause.holds
 cause_is_outcome words before after (cannot_read name) calm cause = cause_for_is_outcome words before after (cannot_read name) calm cause.command cause.given cause.holds
 cause_is_outcome words before after no_memory calm cause = inl refl
 
-module _ (words : List (List ℕ)) (before after : FilesView) (empty full : SinkView) (result : Status) (response : IsResponse words before after empty full result) where
-  pub done : result ≡ status.Done → IsPrinted words before after empty full
+-- the command opens two files
+two_files : (command : Command) (first second : List ℕ) → Opens command first second → 2 ≤ files_of command
+two_files (plan name series pivots) first second pair = absurd pair
+two_files (prices name series pivots) first second pair = absurd pair
+two_files (check name certificate series) first second pair = omega arith
+two_files (audit name other periods) first second pair = omega arith
+
+-- where a refusal has its cause, memory may have run out for its line
+out_of_memory : (words : List (List ℕ)) (before after : FilesView) (refusal : Refusal) → IsCause words before after refusal → IsCause words before after no_memory
+out_of_memory words before after usage cause = inl cause.1
+out_of_memory words before after (refused reason) cause =
+    inr (record { command = cause.command; given = cause.given; holds = record { count = files_for reason; few = cause.holds.few; opens = cause.holds.opens } })
+out_of_memory words before after (cannot_read name) cause = inr (record { command = cause.command; given = cause.given; holds = of_unread cause.holds })
+  where
+    of_unread : IsCauseFor cause.command before after (cannot_read name) → IsOutOfMemory cause.command before after
+    of_unread (inl first) = record { count = 1; few = some_file cause.command; opens = first.opens }
+    of_unread (inr second) = record { count = 2; few = two_files cause.command second.first name second.pair; opens = second.opens }
+out_of_memory words before after no_memory cause = cause
+
+-- a refusal whose line was to be written, or that of memory that ran out
+pub refused_response : (call : Call) (refusal : Refusal) (result : Status) → IsCause call.words call.before call.after refusal →
+    IsOneOf refusal no_memory (λ due. Ends (status_of due) (error_line due) call.out_before call.out_after result) → IsResponse call result
+refused_response call refusal result cause (inl ends) = inr (record { refusal = refusal; cause = cause; ends = ends })
+refused_response call refusal result cause (inr ends) =
+    inr (record { refusal = no_memory; cause = out_of_memory call.words call.before call.after refusal cause; ends = ends })
+
+module _ (call : Call) (result : Status) (response : IsResponse call result) where
+  done : result ≡ status.Done → IsPrinted call
   done is = elim response [
     | inl attempt ↦ elim attempt.ends [
       | inl whole ↦ record { text = attempt.text; answer = attempt.answer; written = whole.1 }
@@ -173,7 +200,7 @@ module _ (words : List (List ℕ)) (before after : FilesView) (empty full : Sink
   ]
 
   -- a status that is neither Done nor WriteFault comes of a refusal whose line was written
-  refusing : (result ≡ status.Done → ⊥) → (result ≡ status.WriteFault → ⊥) → (refusal : Refusal) × (result ≡ status_of refusal) × IsRefused words before after empty full refusal
+  refusing : (result ≡ status.Done → ⊥) → (result ≡ status.WriteFault → ⊥) → (refusal : Refusal) × (result ≡ status_of refusal) × IsRefused call refusal
   refusing not_done not_cut = elim response [
     | inl attempt ↦ elim attempt.ends [ inl whole ↦ absurd (not_done whole.0) | inr cut ↦ absurd (not_cut cut.0) ]
     | inr attempt ↦ elim attempt.ends [
@@ -183,34 +210,34 @@ module _ (words : List (List ℕ)) (before after : FilesView) (empty full : Sink
   ]
 
   refused_as : (due : Status) → (due ≡ status.Done → ⊥) → (due ≡ status.WriteFault → ⊥) → result ≡ due →
-      (refusal : Refusal) × (status_of refusal ≡ due) × IsRefused words before after empty full refusal
+      (refusal : Refusal) × (status_of refusal ≡ due) × IsRefused call refusal
   refused_as due not_done not_cut is =
       let found = refusing (λ e. not_done (sym is ∙ e)) (λ e. not_cut (sym is ∙ e)) in
       (found.0, sym found.1 ∙ is, found.2)
 
-  pub refused_usage : result ≡ status.Usage → IsRefused words before after empty full usage
+  refused_usage : result ≡ status.Usage → IsRefused call usage
   refused_usage is =
       let found = refused_as status.Usage (λ e. cc) (λ e. cc) is in
       rw (is_usage found.0 found.1) at found.2
 
-  pub refused_reason : (due : Status) → IsOfReason due → result ≡ due → IsRefusedWith due words before after empty full
+  refused_reason : (due : Status) → IsOfReason due → result ≡ due → IsRefusedWith due call
   refused_reason due reasonable is =
       let found = refused_as due (λ e. subst IsOfReason e reasonable) (λ e. subst IsOfReason e reasonable) is in
       let of = is_of_reason found.0 due reasonable found.1 in
       record { reason = of.0; is = sym (ap status_of of.1) ∙ found.1; refusal = rw of.1 at found.2 }
 
-  pub refused_read : result ≡ status.ReadFault → (name : List ℕ) × IsRefused words before after empty full (cannot_read name)
+  refused_read : result ≡ status.ReadFault → (name : List ℕ) × IsRefused call (cannot_read name)
   refused_read is =
       let found = refused_as status.ReadFault (λ e. cc) (λ e. cc) is in
       let named = is_cannot_read found.0 found.1 in
       (named.0, rw named.1 at found.2)
 
-  pub refused_memory : result ≡ status.NoMemory → IsRefused words before after empty full no_memory
+  refused_memory : result ≡ status.NoMemory → IsRefused call no_memory
   refused_memory is =
       let found = refused_as status.NoMemory (λ e. cc) (λ e. cc) is in
       rw (is_no_memory found.0 found.1) at found.2
 
-  pub cut_short : result ≡ status.WriteFault → IsCutShort words before after empty full
+  cut_short : result ≡ status.WriteFault → IsCutShort call
   cut_short is = elim response [
     | inl attempt ↦ elim attempt.ends [
       | inl whole ↦ let bad = sym is ∙ whole.0 in cc
@@ -227,36 +254,36 @@ module _ (words : List (List ℕ)) (before after : FilesView) (empty full : Sink
     ]
   ]
 
-  pub complete : (holds : List ℕ → Option (List ℕ)) → AreToldAs before holds → IsText (outcome_of words holds) →
-      (Rose before.faults after.faults → ⊥) → (Rose empty.faults full.faults → ⊥) → (result ≡ status.Done) ⊎ (result ≡ status.NoMemory)
-  complete holds told outcome calm calm_sink = elim response [
-    | inl attempt ↦ elim attempt.ends [ inl whole ↦ inl whole.0 | inr cut ↦ absurd (calm_sink cut.1.cause) ]
+  complete : (holds : List ℕ → Option (List ℕ)) → AreToldAs call.before call.words holds → IsText (outcome_of call.words holds) →
+      IsCalm call → (result ≡ status.Done) ⊎ (result ≡ status.NoMemory)
+  complete holds told outcome calm = elim response [
+    | inl attempt ↦ elim attempt.ends [ inl whole ↦ inl whole.0 | inr cut ↦ absurd (calm.out cut.1.cause) ]
     | inr attempt ↦ elim attempt.ends [
-      | inl whole ↦ elim (cause_is_outcome words before after attempt.refusal calm attempt.cause) [
+      | inl whole ↦ elim (cause_is_outcome call.words call.before call.after attempt.refusal calm.files attempt.cause) [
         | inl memory ↦ inr (whole.0 ∙ ap status_of memory)
-        | inr due ↦ absurd (text_or_refusal (outcome_of words holds) attempt.refusal outcome (due holds told))
+        | inr due ↦ absurd (text_or_refusal (outcome_of call.words holds) attempt.refusal outcome (due holds told))
       ]
-      | inr cut ↦ absurd (calm_sink cut.1.cause)
+      | inr cut ↦ absurd (calm.out cut.1.cause)
     ]
   ]
 
-  pub exact : (holds : List ℕ → Option (List ℕ)) (refusal : Refusal) → AreToldAs before holds → IsRefusal (outcome_of words holds) refusal →
-      (Rose before.faults after.faults → ⊥) → (Rose empty.faults full.faults → ⊥) → (result ≡ status_of refusal) ⊎ (result ≡ status.NoMemory)
-  exact holds refusal told outcome calm calm_sink = elim response [
+  exact : (holds : List ℕ → Option (List ℕ)) (refusal : Refusal) → AreToldAs call.before call.words holds → IsRefusal (outcome_of call.words holds) refusal →
+      IsCalm call → (result ≡ status_of refusal) ⊎ (result ≡ status.NoMemory)
+  exact holds refusal told outcome calm = elim response [
     | inl attempt ↦
         let made = attempt.answer.holds in
-        let refused_too : IsRefusal made.outcome refusal = subst (λ o. IsRefusal o refusal) (words_come_to words before holds attempt.answer.command made.outcome told attempt.answer.given made.comes) outcome in
+        let refused_too : IsRefusal made.outcome refusal = subst (λ o. IsRefusal o refusal) (words_come_to call.words call.before holds attempt.answer.command made.outcome told attempt.answer.given made.comes) outcome in
         absurd (print_or_refusal made.outcome attempt.text refusal made.due refused_too)
     | inr attempt ↦ elim attempt.ends [
-      | inl whole ↦ elim (cause_is_outcome words before after attempt.refusal calm attempt.cause) [
+      | inl whole ↦ elim (cause_is_outcome call.words call.before call.after attempt.refusal calm.files attempt.cause) [
         | inl memory ↦ inr (whole.0 ∙ ap status_of memory)
-        | inr due ↦ inl (whole.0 ∙ one_status (outcome_of words holds) attempt.refusal refusal (due holds told) outcome)
+        | inr due ↦ inl (whole.0 ∙ one_status (outcome_of call.words holds) attempt.refusal refusal (due holds told) outcome)
       ]
-      | inr cut ↦ absurd (calm_sink cut.1.cause)
+      | inr cut ↦ absurd (calm.out cut.1.cause)
     ]
   ]
 
-  pub no_command : command_of words ≡ None → (Rose empty.faults full.faults → ⊥) → (result ≡ status.Usage) ⊎ (result ≡ status.NoMemory)
+  no_command : command_of call.words ≡ None → (Rose call.out_before.faults call.out_after.faults → ⊥) → (result ≡ status.Usage) ⊎ (result ≡ status.NoMemory)
   no_command none calm_sink = elim response [
     | inl attempt ↦ let bad = sym none ∙ attempt.answer.given in cc
     | inr attempt ↦ elim attempt.ends [
@@ -265,8 +292,41 @@ module _ (words : List (List ℕ)) (before after : FilesView) (empty full : Sink
     ]
   ]
     where
-      of_cause : (refusal : Refusal) → IsCause words before after refusal → result ≡ status_of refusal → (result ≡ status.Usage) ⊎ (result ≡ status.NoMemory)
+      of_cause : (refusal : Refusal) → IsCause call.words call.before call.after refusal → result ≡ status_of refusal → (result ≡ status.Usage) ⊎ (result ≡ status.NoMemory)
       of_cause usage cause is = inl is
       of_cause (refused reason) cause is = let bad = sym none ∙ cause.given in cc
       of_cause (cannot_read name) cause is = let bad = sym none ∙ cause.given in cc
       of_cause no_memory cause is = inr is
+
+  -- words that are no command leave the files as they are
+  untouched : command_of call.words ≡ None → call.after ≡ call.before
+  untouched none = elim response [
+    | inl attempt ↦ let bad = sym none ∙ attempt.answer.given in cc
+    | inr attempt ↦ of_cause attempt.refusal attempt.cause
+  ]
+    where
+      of_cause : (refusal : Refusal) → IsCause call.words call.before call.after refusal → call.after ≡ call.before
+      of_cause usage cause = cause.1
+      of_cause (refused reason) cause = let bad = sym none ∙ cause.given in cc
+      of_cause (cannot_read name) cause = let bad = sym none ∙ cause.given in cc
+      of_cause no_memory (inl same) = same
+      of_cause no_memory (inr cause) = let bad = sym none ∙ cause.given in cc
+
+  -- so the call ends as each status says
+  pub ends : IsEnd call result
+  ends = record {
+    done = done;
+    usage = refused_usage;
+    platform = refused_reason status.Platform tt;
+    overflow = refused_reason status.Overflow tt;
+    spent = refused_reason status.Spent tt;
+    too_long = refused_reason status.TooLong tt;
+    refused = refused_reason status.Refused tt;
+    read_fault = refused_read;
+    memory = refused_memory;
+    write_fault = cut_short;
+    complete = complete;
+    exact = exact;
+    no_command = no_command;
+    untouched = untouched;
+  }

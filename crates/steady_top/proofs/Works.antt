@@ -6,7 +6,7 @@ use Rattle.std.specs.Result.{IsErr, IsErrAnd}
 use Rattle.text_lines.specs.Lines.{line}
 use Rattle.outside_io.specs.Files.{Told, untold, absent, contents, FilesView, MayFail, HasCause}
 use Rattle.outside_io.specs.Faults.{raised}
-use Rattle.outside_io.specs.Reading.{MayHold, MayPass}
+use Rattle.outside_io.specs.Reading.{MayHold, MayPass, IsWholeRead}
 use Rattle.platform_file.specs.declared.fault.Kind.TheVariants.{Text}
 use Rattle.platform_file.specs.Platform.{PlatformView}
 use Rattle.platform_file.specs.Reading.{most_bytes, platform_of, IsFaultOf}
@@ -26,13 +26,20 @@ use Rattle.plan_text.specs.Texts.{plan_text}
 use Rattle.schedule_model.specs.declared.schedule.Series.{Series}
 use Rattle.schedule_model.specs.declared.schedule.Series.TheVariants.{Tasking}
 use Rattle.schedule_model.specs.Throughput.{IsUpperRate}
+use Rattle.tasking_program.specs.Programme.{tasking_programme}
+use Rattle.dual_checker.specs.declared.verdict.Verdict.{Verdict}
+use Rattle.dual_checker.specs.declared.verdict.Verdict.TheVariants.{Proves, Negative, Column, Value, Overflow}
+use Rattle.dual_checker.specs.declared.reading.CertificateFault.{CertificateFault}
+use Rattle.dual_checker.specs.declared.reading.CertificateFault.TheVariants as text
+use Rattle.dual_checker.specs.Reading.{certificate_of}
+use Rattle.dual_checker.specs.Verdicts.{verdict_of}
 use Rattle.dual_checker.specs.Texts.{certificate_text}
-use Rattle.steady_top.specs.Refusals.{Reason, no_platform, no_plan, long_certificate, long_plan, Refusal, usage, refused, cannot_read, no_memory, platform_refusal, timed_refusal, plan_refusal}
+use Rattle.steady_top.specs.Refusals.{Reason, no_platform, no_plan, long_certificate, long_plan, files_for, Refusal, usage, refused, cannot_read, no_memory, platform_refusal, timed_refusal, plan_refusal}
 use Rattle.command_words.specs.Words.{Command, plan, prices, check, audit}
-use Rattle.steady_top.specs.Audits.{IsAudit}
-use Rattle.steady_top.specs.Outcomes.{first_name, second_name, Outcome, prints, plans as plans_of, audits, refuses, IsRefusal, with_timed, with_platform, with_file, planned, priced, judged, judged_reading, check_of_file, most_plan_bytes, audit_of_file, work_of}
-use Rattle.steady_top.specs.Answers.{MayBe, ComesTo, IsMade, Opens, IsRefusedFor, IsSecondFault, IsCauseFor}
-use Rattle.steady_top.specs.Planned.{IsPlatformRead, IsFileFault, IsPlatformFault, MayRefuse, IsBestPlan, IsBestPrices, IsCertificateRead, IsCertificateFault, IsProved, IsJudged, IsChecked, IsPlanRead, IsPlanFault, IsAuditFault, IsAudited, IsUnaudited}
+use Rattle.steady_top.specs.Audits.{IsReason, IsAudit}
+use Rattle.steady_top.specs.Outcomes.{first_name, second_name, files_of, Outcome, prints, plans as plans_of, audits, refuses, IsRefusal, with_timed, with_platform, with_file, planned, priced, plan_of, certificate_for, judged, judged_reading, check_of_file, most_plan_bytes, audit_of_file, work_of}
+use Rattle.steady_top.specs.Answers.{MayBe, ComesTo, AreOpened, IsMade, Opens, IsRefusedFor, IsSecondUnread, IsCauseFor}
+use Rattle.steady_top.specs.Planned.{IsUnread, IsPlatformRead, IsPlatformFault, IsSecondRead, IsSecondFault, MayRefuse, IsBestPlan, IsBestPrices, IsProved, check_of_bytes, IsChecked, IsAuditFault, IsAudited}
 
 -- the bytes that were read may be what is told
 pub read_may_be : (told : Told) (bytes : List ℕ) → MayHold told bytes → MayBe told (Some bytes)
@@ -62,31 +69,57 @@ pub read_is_next : (next : TimedView → Outcome) (bytes : List ℕ) (p : Platfo
     with_file next bytes ≡ next t
 read_is_next next bytes p t h read in_ticks = whole_is_read next bytes (Ok p) h read ∙ ap (with_timed next) in_ticks
 
+-- two opens in turn
+raised_twice : (before middle after : ℕ) → middle ≡ raised before 1 → after ≡ raised middle 1 → after ≡ raised before 2
+raised_twice before middle after e f = f ∙ rw e (omega arith)
+
+-- a command opens a file
+pub some_file : (command : Command) → 1 ≤ files_of command
+some_file (plan name series pivots) = omega arith
+some_file (prices name series pivots) = omega arith
+some_file (check name certificate series) = omega arith
+some_file (audit name other periods) = omega arith
+
+-- how many files have been opened where an outcome refuses what was read, and else so many
+abbrev opened : ℕ → Outcome → ℕ
+opened count (refuses (refused reason)) = files_for reason
+opened count other = count
+
 -- the fault of a platform file, or of its ticks, is why it isn't read
-module _ (before after : FilesView) (name bytes : List ℕ) (file : MayBe (before.held name) (Some bytes)) (short : length bytes ≤ most_bytes) where
-  for_reason : (fault : PlatformFault) (refusal : Refusal) (reason : Reason) → platform_of bytes ≡ Err fault → refusal ≡ platform_refusal fault → platform_refusal fault ≡ refused reason →
+module _ (before after : FilesView) (name bytes : List ℕ) (file : MayBe (before.held name) (Some bytes)) (short : length bytes ≤ most_bytes) (opens : AreOpened 1 before after) where
+  for_reason : (fault : PlatformFault) (refusal : Refusal) (reason : Reason) → platform_of bytes ≡ Err fault → refusal ≡ platform_refusal fault → platform_refusal fault ≡ refused reason → files_for reason ≡ 1 →
       IsPlatformFault before name after refusal
-  for_reason fault refusal reason read is named =
-      rw (is ∙ named) (record { bytes = bytes; file = file; outcome = λ next. whole_is_read next bytes (Err fault) short read ∙ ap refuses named })
+  for_reason fault refusal reason read is named first =
+      rw (is ∙ named) (record { opens = opens; cause = record { bytes = bytes; file = file; outcome = λ next. whole_is_read next bytes (Err fault) short read ∙ ap refuses named; first = first } })
 
   pub fault_is_platform : (fault : PlatformFault) (refusal : Refusal) → IsFaultOf fault (platform_of bytes) → refusal ≡ platform_refusal fault → IsPlatformFault before name after refusal
-  fault_is_platform (fault.Limit kind found) refusal read is = for_reason (fault.Limit kind found) refusal (no_platform (fault.Limit kind found)) read is refl
-  fault_is_platform fault.NotToml refusal read is = for_reason fault.NotToml refusal (no_platform fault.NotToml) read is refl
-  fault_is_platform (fault.BadField place) refusal read is = for_reason (fault.BadField place) refusal (no_platform (fault.BadField place)) read is refl
-  fault_is_platform (fault.TwiceNamed node) refusal read is = for_reason (fault.TwiceNamed node) refusal (no_platform (fault.TwiceNamed node)) read is refl
-  fault_is_platform (fault.Unknown place) refusal read is = for_reason (fault.Unknown place) refusal (no_platform (fault.Unknown place)) read is refl
-  fault_is_platform (fault.TargetIsMaster target) refusal read is = for_reason (fault.TargetIsMaster target) refusal (no_platform (fault.TargetIsMaster target)) read is refl
-  fault_is_platform (fault.TargetTwice target) refusal read is = for_reason (fault.TargetTwice target) refusal (no_platform (fault.TargetTwice target)) read is refl
-  fault_is_platform (fault.SelfLink link) refusal read is = for_reason (fault.SelfLink link) refusal (no_platform (fault.SelfLink link)) read is refl
-  fault_is_platform (fault.TwiceLinked link) refusal read is = for_reason (fault.TwiceLinked link) refusal (no_platform (fault.TwiceLinked link)) read is refl
-  fault_is_platform (fault.BadRatio place cause) refusal read is = for_reason (fault.BadRatio place cause) refusal (no_platform (fault.BadRatio place cause)) read is refl
-  fault_is_platform fault.NoMemory refusal read is = rw is tt
+  fault_is_platform (fault.Limit kind found) refusal read is = for_reason (fault.Limit kind found) refusal (no_platform (fault.Limit kind found)) read is refl refl
+  fault_is_platform fault.NotToml refusal read is = for_reason fault.NotToml refusal (no_platform fault.NotToml) read is refl refl
+  fault_is_platform (fault.BadField place) refusal read is = for_reason (fault.BadField place) refusal (no_platform (fault.BadField place)) read is refl refl
+  fault_is_platform (fault.TwiceNamed node) refusal read is = for_reason (fault.TwiceNamed node) refusal (no_platform (fault.TwiceNamed node)) read is refl refl
+  fault_is_platform (fault.Unknown place) refusal read is = for_reason (fault.Unknown place) refusal (no_platform (fault.Unknown place)) read is refl refl
+  fault_is_platform (fault.TargetIsMaster target) refusal read is = for_reason (fault.TargetIsMaster target) refusal (no_platform (fault.TargetIsMaster target)) read is refl refl
+  fault_is_platform (fault.TargetTwice target) refusal read is = for_reason (fault.TargetTwice target) refusal (no_platform (fault.TargetTwice target)) read is refl refl
+  fault_is_platform (fault.SelfLink link) refusal read is = for_reason (fault.SelfLink link) refusal (no_platform (fault.SelfLink link)) read is refl refl
+  fault_is_platform (fault.TwiceLinked link) refusal read is = for_reason (fault.TwiceLinked link) refusal (no_platform (fault.TwiceLinked link)) read is refl refl
+  fault_is_platform (fault.BadRatio place cause) refusal read is = for_reason (fault.BadRatio place cause) refusal (no_platform (fault.BadRatio place cause)) read is refl refl
+  fault_is_platform fault.NoMemory refusal read is = rw is (record { opens = opens; cause = tt })
 
   pub fault_is_timed : (p : PlatformView) (fault : TimedFault) (refusal : Refusal) → platform_of bytes ≡ Ok p → IsTimedFault fault (timed_of p) → refusal ≡ timed_refusal fault →
       IsPlatformFault before name after refusal
   fault_is_timed p (timed_fault.Unit left right) refusal read in_ticks is =
-      rw is (record { bytes = bytes; file = file; outcome = λ next. whole_is_read next bytes (Ok p) short read ∙ ap (with_timed next) in_ticks })
-  fault_is_timed p timed_fault.NoMemory refusal read in_ticks is = rw is tt
+      rw is (record { opens = opens; cause = record { bytes = bytes; file = file; outcome = λ next. whole_is_read next bytes (Ok p) short read ∙ ap (with_timed next) in_ticks; first = refl } })
+  fault_is_timed p timed_fault.NoMemory refusal read in_ticks is = rw is (record { opens = opens; cause = tt })
+
+-- a platform file whose bytes aren't read
+pub unread_is_platform : (before after : FilesView) (name : List ℕ) (refusal : Refusal) → IsUnread before name most_bytes (refused (no_platform (fault.Limit Text (most_bytes + 1)))) after refusal → IsPlatformFault before name after refusal
+unread_is_platform before after name refusal unread = elim unread.cause [
+  | inl w ↦ rw w.0 (record { opens = unread.opens; cause = record { same = refl; cause = w.1 } })
+  | inr (inl w) ↦
+      let file = longer (before.held name) most_bytes w.1 in
+      rw w.0 (record { opens = unread.opens; cause = record { bytes = file.0; file = file.1; outcome = λ next. longer_is_refused next file.0 file.2; first = refl } })
+  | inr (inr w) ↦ rw w (record { opens = unread.opens; cause = tt })
+]
 
 -- something that may be told
 abbrev chosen : Told → Option (List ℕ)
@@ -110,23 +143,33 @@ comes_of command before after t second outcome read told is = record {
   is = read.short (work_of command second) ∙ is;
 }
 
+-- as many files were opened as a reason needs
+opened_for : (before after : FilesView) (reason : Reason) {count : ℕ} → files_for reason ≡ count → AreOpened count before after → AreOpened (files_for reason) before after
+opened_for before after reason e opens = subst (λ count. AreOpened count before after) (sym e) opens
+
 -- what a command comes to where it refuses
-refused_for_reason : (command : Command) (before : FilesView) (reason : Reason) → ComesTo command before (refuses (refused reason)) → IsRefusedFor command before reason
-refused_for_reason command before reason comes = record { outcome = refuses (refused reason); comes = comes; refusal = refl }
+refused_for_reason : (command : Command) (before after : FilesView) (reason : Reason) → ComesTo command before (refuses (refused reason)) → files_for reason ≡ 1 → AreOpened 1 before after → IsRefusedFor command before after reason
+refused_for_reason command before after reason comes first opens = record {
+  outcome = refuses (refused reason);
+  comes = comes;
+  refusal = refl;
+  few = rw first (some_file command);
+  opens = opened_for before after reason first opens;
+}
 
 -- why a platform file isn't read is why the command is refused
 pub platform_fault : (command : Command) (before after : FilesView) (refusal : Refusal) → IsPlatformFault before (first_name command) after refusal → IsCauseFor command before after refusal
-platform_fault command before after usage fault = absurd fault
-platform_fault command before after (refused reason) fault = refused_for_reason command before reason (record {
-  first = Some fault.bytes;
+platform_fault command before after usage fault = absurd fault.cause
+platform_fault command before after (refused reason) fault = refused_for_reason command before after reason (record {
+  first = Some fault.cause.bytes;
   second = chosen (before.held (second_name command));
-  first_told = fault.file;
+  first_told = fault.cause.file;
   second_told = chosen_may_be (before.held (second_name command));
-  is = fault.outcome (work_of command (chosen (before.held (second_name command))));
-})
+  is = fault.cause.outcome (work_of command (chosen (before.held (second_name command))));
+}) fault.cause.first fault.opens
 platform_fault command before after (cannot_read named) fault =
-    inl (record { is_first = fault.same; cause = subst (λ name. HasCause before name after) (sym fault.same) fault.cause; one_open = fault.one_open })
-platform_fault command before after no_memory fault = tt
+    inl (record { is_first = fault.cause.same; cause = subst (λ name. HasCause before name after) (sym fault.cause.same) fault.cause.cause; opens = fault.opens })
+platform_fault command before after no_memory fault = record { count = 1; few = some_file command; opens = fault.opens }
 
 -- a fault of the planner is why an outcome refuses
 pub planner_refuses : (outcome : Outcome) (fault : PlanFault) (refusal : Refusal) → ((fault ≡ plans.NoMemory → ⊥) → outcome ≡ refuses (plan_refusal fault)) → refusal ≡ plan_refusal fault → MayRefuse outcome refusal
@@ -136,13 +179,38 @@ planner_refuses outcome (plans.Period step left right) refusal exact is = rw is 
 planner_refuses outcome plans.NoMemory refusal exact is = rw is tt
 
 -- what the work on a platform that was read refuses is why the command is refused
-pub refused_is_cause : (command : Command) (before middle after : FilesView) (t : TimedView) (second : Option (List ℕ)) → IsPlatformRead before (first_name command) middle t → MayBe (before.held (second_name command)) second →
-    (refusal : Refusal) → MayRefuse (work_of command second t) refusal → IsCauseFor command before after refusal
-refused_is_cause command before middle after t second read told usage is = absurd is
-refused_is_cause command before middle after t second read told (refused reason) is =
-    refused_for_reason command before reason (comes_of command before middle t second (refuses (refused reason)) read told is)
-refused_is_cause command before middle after t second read told (cannot_read name) is = absurd is
-refused_is_cause command before middle after t second read told no_memory is = tt
+refused_is_cause : (command : Command) (before after : FilesView) (t : TimedView) (second : Option (List ℕ)) → IsPlatformRead before (first_name command) after t → MayBe (before.held (second_name command)) second →
+    opened 1 (work_of command second t) ≡ 1 → (refusal : Refusal) → MayRefuse (work_of command second t) refusal → IsCauseFor command before after refusal
+refused_is_cause command before after t second read told first usage is = absurd is
+refused_is_cause command before after t second read told first (refused reason) is =
+    refused_for_reason command before after reason (comes_of command before after t second (refuses (refused reason)) read told is) (sym (ap (opened 1) is) ∙ first) read.opens
+refused_is_cause command before after t second read told first (cannot_read name) is = absurd is
+refused_is_cause command before after t second read told first no_memory is = record { count = 1; few = some_file command; opens = read.opens }
+
+first_of_plan : (pivots : ℕ) (t : TimedView) (fault : Option PlanFault) → opened 1 (planned pivots t fault) ≡ 1
+first_of_plan pivots t None = refl
+first_of_plan pivots t (Some (plans.Pivot made row column)) = refl
+first_of_plan pivots t (Some (plans.Spent allowed)) = refl
+first_of_plan pivots t (Some (plans.Period step left right)) = refl
+first_of_plan pivots t (Some plans.NoMemory) = refl
+
+first_of_prices : (found : Option (Result CertificateView PlanFault)) → opened 1 (priced found) ≡ 1
+first_of_prices None = refl
+first_of_prices (Some (Ok c)) = refl
+first_of_prices (Some (Err (plans.Pivot made row column))) = refl
+first_of_prices (Some (Err (plans.Spent allowed))) = refl
+first_of_prices (Some (Err (plans.Period step left right))) = refl
+first_of_prices (Some (Err plans.NoMemory)) = refl
+
+pub unplanned_is_cause : (before after : FilesView) (name : List ℕ) (series : Series) (pivots : ℕ) (t : TimedView) → IsPlatformRead before name after t → (refusal : Refusal) → MayRefuse (plan_of pivots t) refusal →
+    IsCauseFor (plan name series pivots) before after refusal
+unplanned_is_cause before after name series pivots t read =
+    refused_is_cause (plan name series pivots) before after t (Some read.platform.bytes) read read.platform.file (first_of_plan pivots t (fault_of pivots t))
+
+pub unpriced_is_cause : (before after : FilesView) (name : List ℕ) (series : Series) (pivots : ℕ) (t : TimedView) → IsPlatformRead before name after t → (refusal : Refusal) → MayRefuse (certificate_for pivots t) refusal →
+    IsCauseFor (prices name series pivots) before after refusal
+unpriced_is_cause before after name series pivots t read =
+    refused_is_cause (prices name series pivots) before after t (Some read.platform.bytes) read read.platform.file (first_of_prices (prices_of pivots t))
 
 -- a plan that is found is what the command prints
 pub planned_is_made : (before after : FilesView) (name : List ℕ) (series : Series) (most : ℕ) (t : TimedView) (text : List ℕ) → IsPlatformRead before name after t → IsBestPlan most t text →
@@ -153,6 +221,7 @@ planned_is_made before after name series most t text read found = record {
   due = record { plan = found.plan; is = found.made; is_text = found.is_plan };
   claim = record { timed = t; platform = read.platform; plan = found.plan; made = found.made; best = found.best; is_plan = found.is_plan };
   calm = read.calm;
+  opens = read.opens;
 }
   where
     none : fault_of most t ≡ None
@@ -167,6 +236,7 @@ priced_is_made before after name series most t text read found = record {
   due = refl;
   claim = record { timed = t; platform = read.platform; certificate = found.certificate; run = found.run; best = found.best; rate = found.rate; is_certificate = found.is_certificate };
   calm = read.calm;
+  opens = read.opens;
 }
 
 -- what is told of a name, behind a file that was read
@@ -174,111 +244,164 @@ told_before : (before middle : FilesView) (name : List ℕ) (t : TimedView) (sec
     MayBe (before.held second) file
 told_before before middle name t second file read may = subst (λ told. MayBe told file) (read.held second) may
 
--- the second file can't be opened or read
-second_fault : (command : Command) (before middle after : FilesView) (name second named : List ℕ) (t : TimedView) → IsPlatformRead before name middle t → Opens command name named → IsFileFault middle second after named →
-    IsSecondFault command before after named
-second_fault command before middle after name second named t read opens fault = record {
-  first = name;
-  opens = opens;
+-- the bytes of a second file
+pub second_read : (before after : FilesView) (name : List ℕ) (most : ℕ) (bytes : List ℕ) → IsWholeRead before name most bytes after → IsSecondRead before name most after bytes
+second_read before after name most bytes read = record { file = read_may_be (before.held name) bytes read.file; size = read.within; calm = read.faults; opens = read.one_open.opens }
+
+-- a second file whose bytes aren't read
+pub unread_is_second : (outcome : List ℕ → Outcome) (before after : FilesView) (name : List ℕ) (most : ℕ) (long : Reason) → ((bytes : List ℕ) → most < length bytes → outcome bytes ≡ refuses (refused long)) → files_for long ≡ 2 →
+    (refusal : Refusal) → IsUnread before name most (refused long) after refusal → IsSecondFault outcome before name after refusal
+unread_is_second outcome before after name most long passed second refusal unread = elim unread.cause [
+  | inl w ↦ rw w.0 (record { opens = unread.opens; cause = record { same = refl; cause = w.1 } })
+  | inr (inl w) ↦
+      let file = longer (before.held name) most w.1 in
+      let refuses_it : IsRefusal (outcome file.0) (refused long) = subst (λ o. IsRefusal o (refused long)) (sym (passed file.0 file.2)) refl in
+      rw w.0 (record { opens = unread.opens; cause = record { bytes = file.0; file = file.1; refusal = refuses_it; second = second } })
+  | inr (inr w) ↦ rw w (record { opens = unread.opens; cause = tt })
+]
+
+-- why nothing comes of a second file is why the command is refused
+second_cause : (command : Command) (before middle after : FilesView) (t : TimedView) (outcome : List ℕ → Outcome) → ((named : List ℕ) → named ≡ second_name command → Opens command (first_name command) named) → files_of command ≡ 2 →
+    ((bytes : List ℕ) → work_of command (Some bytes) t ≡ outcome bytes) → IsPlatformRead before (first_name command) middle t → (refusal : Refusal) → IsSecondFault outcome middle (second_name command) after refusal →
+    IsCauseFor command before after refusal
+second_cause command before middle after t outcome pair two work read usage fault = absurd fault.cause
+second_cause command before middle after t outcome pair two work read (refused reason) fault = record {
+  outcome = outcome fault.cause.bytes;
+  comes = comes_of command before middle t (Some fault.cause.bytes) (outcome fault.cause.bytes) read (told_before before middle (first_name command) t (second_name command) (Some fault.cause.bytes) read fault.cause.file) (work fault.cause.bytes);
+  refusal = fault.cause.refusal;
+  few = rw (fault.cause.second, two) (omega arith);
+  opens = opened_for before after reason fault.cause.second (raised_twice before.opens middle.opens after.opens read.opens fault.opens);
+}
+second_cause command before middle after t outcome pair two work read (cannot_read named) fault = inr (record {
+  first = first_name command;
+  pair = pair named fault.cause.same;
   timed = t;
   platform = read.platform;
   short = read.short;
-  cause = subst (λ told. MayFail told before.faults after.faults) (read.held named) (subst (λ faults. MayFail (middle.held named) faults after.faults) read.calm (subst (λ name. HasCause middle name after) (sym fault.same) fault.cause));
-  two_opens = fault.one_open ∙ ap (λ opens. raised opens 1) read.one_open;
-}
+  cause = subst (λ told. MayFail told before.faults after.faults) (read.held named) (subst (λ faults. MayFail (middle.held named) faults after.faults) read.calm (subst (λ name. HasCause middle name after) (sym fault.cause.same) fault.cause.cause));
+  opens = raised_twice before.opens middle.opens after.opens read.opens fault.opens;
+})
+second_cause command before middle after t outcome pair two work read no_memory fault =
+    record { count = 2; few = rw two (omega arith); opens = raised_twice before.opens middle.opens after.opens read.opens fault.opens }
 
--- why a certificate isn't read is why the command is refused
-pub certificate_fault : (before middle after : FilesView) (name second : List ℕ) (series : Series) (t : TimedView) → IsPlatformRead before name middle t → (refusal : Refusal) →
-    IsCertificateFault t middle second after refusal → IsCauseFor (check name second series) before after refusal
-certificate_fault before middle after name second series t read usage fault = absurd fault
-certificate_fault before middle after name second series t read (refused reason) fault =
-    refused_for_reason (check name second series) before reason (comes_of (check name second series) before middle t (Some fault.bytes) (refuses (refused reason)) read (told_before before middle name t second (Some fault.bytes) read fault.file) fault.outcome)
-certificate_fault before middle after name second series t read (cannot_read named) fault = inr (second_fault (check name second series) before middle after name second named t read (refl, sym fault.same) fault)
-certificate_fault before middle after name second series t read no_memory fault = tt
+pub unchecked_is_cause : (before middle after : FilesView) (name second : List ℕ) (series : Series) (t : TimedView) → IsPlatformRead before name middle t → (refusal : Refusal) →
+    IsSecondFault (check_of_file t) middle second after refusal → IsCauseFor (check name second series) before after refusal
+unchecked_is_cause before middle after name second series t read =
+    second_cause (check name second series) before middle after t (check_of_file t) (λ named same. (refl, sym same)) refl (λ bytes. refl) read
+
+pub unaudited_is_cause : (before middle after : FilesView) (name second : List ℕ) (periods : ℕ) (t : TimedView) → IsPlatformRead before name middle t → (refusal : Refusal) →
+    IsSecondFault (audit_of_file periods t) middle second after refusal → IsCauseFor (audit name second periods) before after refusal
+unaudited_is_cause before middle after name second periods t read =
+    second_cause (audit name second periods) before middle after t (audit_of_file periods t) (λ named same. (refl, sym same)) refl (λ bytes. refl) read
+
+-- a certificate that is too long
+pub long_is_refused : (t : TimedView) (bytes : List ℕ) → most_bytes < length bytes → check_of_file t bytes ≡ refuses (refused long_certificate)
+long_is_refused t bytes h = rw (lt-ltb most_bytes (length bytes) h) refl
+
+short_is_checked : (t : TimedView) (bytes : List ℕ) → length bytes ≤ most_bytes → check_of_file t bytes ≡ check_of_bytes t bytes
+short_is_checked t bytes h = rw (le-ltb most_bytes (length bytes) h) refl
+
+-- a plan that is too long
+pub long_plan_refused : (t : TimedView) (periods : ℕ) (bytes : List ℕ) → most_plan_bytes < length bytes → audit_of_file periods t bytes ≡ refuses (refused long_plan)
+long_plan_refused t periods bytes h = rw (lt-ltb most_plan_bytes (length bytes) h) refl
+
+short_is_audited : (t : TimedView) (periods : ℕ) (bytes : List ℕ) → length bytes ≤ most_plan_bytes → audit_of_file periods t bytes ≡ audits periods t bytes
+short_is_audited t periods bytes h = rw (le-ltb most_plan_bytes (length bytes) h) refl
+
+-- a certificate that is refused, behind both files
+second_of_verdict : (t : TimedView) (c : CertificateView) (verdict : Verdict) → opened 2 (judged t c verdict) ≡ 2
+second_of_verdict t c Proves = refl
+second_of_verdict t c (Negative row) = refl
+second_of_verdict t c (Column column) = refl
+second_of_verdict t c Value = refl
+second_of_verdict t c (Overflow column) = refl
+
+second_of_reading : (t : TimedView) (reading : Result CertificateView CertificateFault) → opened 2 (judged_reading t reading) ≡ 2
+second_of_reading t (Ok c) = second_of_verdict t c (verdict_of (tasking_programme t) c)
+second_of_reading t (Err (text.Line number)) = refl
+second_of_reading t (Err text.NoMemory) = refl
+
+-- what the check of a certificate that was read refuses
+pub unproved_is_second : (t : TimedView) (before after : FilesView) (name bytes : List ℕ) → IsSecondRead before name most_bytes after bytes → (refusal : Refusal) → MayRefuse (check_of_bytes t bytes) refusal →
+    IsSecondFault (check_of_file t) before name after refusal
+unproved_is_second t before after name bytes read usage is = absurd is
+unproved_is_second t before after name bytes read (refused reason) is = record {
+  opens = read.opens;
+  cause = record {
+    bytes = bytes;
+    file = read.file;
+    refusal = subst (λ o. IsRefusal o (refused reason)) (sym (short_is_checked t bytes read.size ∙ is)) refl;
+    second = sym (ap (opened 2) is) ∙ second_of_reading t (certificate_of Tasking (length (tasking_programme t).rows) bytes);
+  };
+}
+unproved_is_second t before after name bytes read (cannot_read named) is = absurd is
+unproved_is_second t before after name bytes read no_memory is = record { opens = read.opens; cause = tt }
+
+-- a plan that is refused, behind both files
+second_of_reason : (periods : ℕ) (t : TimedView) (bytes : List ℕ) (reason : Reason) → IsReason periods t bytes reason → files_for reason ≡ 2
+second_of_reason periods t bytes reason (inl w) = ap files_for w.1
+second_of_reason periods t bytes reason (inr (inl w)) = ap files_for w.0
+second_of_reason periods t bytes reason (inr (inr w)) = ap files_for w.2
+
+-- what the audit of a plan that was read refuses
+pub unsound_is_second : (t : TimedView) (periods : ℕ) (before after : FilesView) (name bytes : List ℕ) → IsTimed t → IsSecondRead before name most_plan_bytes after bytes → (refusal : Refusal) →
+    IsAuditFault periods t bytes refusal → IsSecondFault (audit_of_file periods t) before name after refusal
+unsound_is_second t periods before after name bytes timed read usage fault = absurd fault
+unsound_is_second t periods before after name bytes timed read (refused reason) fault = record {
+  opens = read.opens;
+  cause = record {
+    bytes = bytes;
+    file = read.file;
+    refusal = subst (λ o. IsRefusal o (refused reason)) (sym (short_is_audited t periods bytes read.size)) (record { timed = timed; small = omega (arith, read.size); reasoned = fault });
+    second = second_of_reason periods t bytes reason fault;
+  };
+}
+unsound_is_second t periods before after name bytes timed read (cannot_read named) fault = absurd fault
+unsound_is_second t periods before after name bytes timed read no_memory fault = record { opens = read.opens; cause = tt }
 
 -- what the check of a certificate that was read says is what the command comes to
 pub checked_is_made : (before middle after : FilesView) (name second : List ℕ) (series : Series) (t : TimedView) → IsPlatformRead before name middle t → (text : List ℕ) → IsChecked t middle second after text →
     IsMade (check name second series) before after text
 checked_is_made before middle after name second series t read text checked = record {
   outcome = prints text;
-  comes = comes_of (check name second series) before middle t (Some certificate.bytes) (prints text) read file (certificate.short ∙ ap (judged t checked.certificate) proved.proves ∙ ap prints (sym proved.is_line));
+  comes = comes_of (check name second series) before middle t (Some checked.bytes) (prints text) read file
+      (short_is_checked t checked.bytes checked.read.size ∙ ap (judged_reading t) checked.check.read ∙ ap (judged t checked.check.certificate) proved.proves ∙ ap prints (sym proved.is_line));
   due = refl;
   claim = record {
     timed = t;
     platform = read.platform;
-    bytes = certificate.bytes;
+    bytes = checked.bytes;
     file = file;
-    certificate = checked.certificate;
-    read = certificate.read;
+    certificate = checked.check.certificate;
+    read = checked.check.read;
     proves = proved.proves;
     rate = proved.rate;
     is_line = proved.is_line;
   };
-  calm = certificate.calm ∙ read.calm;
+  calm = checked.read.calm ∙ read.calm;
+  opens = raised_twice before.opens middle.opens after.opens read.opens checked.read.opens;
 }
   where
-    certificate : IsCertificateRead t middle second after checked.certificate
-    certificate = checked.read
+    proved : IsProved t checked.check.certificate text
+    proved = checked.check.proved
 
-    proved : IsProved t checked.certificate text
-    proved = checked.proved
-
-    file : MayBe (before.held second) (Some certificate.bytes)
-    file = told_before before middle name t second (Some certificate.bytes) read certificate.file
-
--- a certificate that is refused is why its file is
-pub judged_is_fault : (t : TimedView) (before after : FilesView) (name : List ℕ) (c : CertificateView) → IsCertificateRead t before name after c → (refusal : Refusal) → IsJudged t c refusal →
-    IsCertificateFault t before name after refusal
-judged_is_fault t before after name c read usage is = absurd is
-judged_is_fault t before after name c read (refused reason) is = record { bytes = read.bytes; file = read.file; outcome = read.short ∙ is }
-judged_is_fault t before after name c read (cannot_read named) is = absurd is
-judged_is_fault t before after name c read no_memory is = tt
-
--- why a plan's file isn't read is why it isn't audited
-pub unread_is_unaudited : (t : TimedView) (periods : ℕ) (before after : FilesView) (name : List ℕ) (refusal : Refusal) → IsPlanFault t periods before name after refusal → IsUnaudited t periods before name after refusal
-unread_is_unaudited t periods before after name usage fault = absurd fault
-unread_is_unaudited t periods before after name (refused reason) fault =
-    record { bytes = fault.bytes; file = fault.file; refusal = subst (λ o. IsRefusal o (refused reason)) (sym fault.outcome) refl }
-unread_is_unaudited t periods before after name (cannot_read named) fault = fault
-unread_is_unaudited t periods before after name no_memory fault = tt
-
--- a plan that is refused is why its file is
-pub unsound_is_unaudited : (t : TimedView) (periods : ℕ) (before after : FilesView) (name bytes : List ℕ) → IsTimed t → IsPlanRead t periods before name after bytes → (refusal : Refusal) →
-    IsAuditFault periods t bytes refusal → IsUnaudited t periods before name after refusal
-unsound_is_unaudited t periods before after name bytes timed read usage fault = absurd fault
-unsound_is_unaudited t periods before after name bytes timed read (refused reason) fault = record {
-  bytes = bytes;
-  file = read.file;
-  refusal = subst (λ o. IsRefusal o (refused reason)) (sym read.short) (record { timed = timed; small = omega (arith, read.size); reasoned = fault });
-}
-unsound_is_unaudited t periods before after name bytes timed read (cannot_read named) fault = absurd fault
-unsound_is_unaudited t periods before after name bytes timed read no_memory fault = tt
+    file : MayBe (before.held second) (Some checked.bytes)
+    file = told_before before middle name t second (Some checked.bytes) read checked.read.file
 
 -- what the audit of a plan's file says is what the command comes to
 pub audited_is_made : (before middle after : FilesView) (name second : List ℕ) (periods : ℕ) (t : TimedView) → IsPlatformRead before name middle t → (text : List ℕ) → IsAudited t periods middle second after text →
     IsMade (audit name second periods) before after text
 audited_is_made before middle after name second periods t read text audited = record {
   outcome = audits periods t audited.bytes;
-  comes = comes_of (audit name second periods) before middle t (Some audited.bytes) (audits periods t audited.bytes) read file audited.read.short;
+  comes = comes_of (audit name second periods) before middle t (Some audited.bytes) (audits periods t audited.bytes) read file (short_is_audited t periods audited.bytes audited.read.size);
   due = audited.audit;
   claim = record { timed = t; platform = read.platform; bytes = audited.bytes; file = file; audit = audited.audit };
   calm = audited.read.calm ∙ read.calm;
+  opens = raised_twice before.opens middle.opens after.opens read.opens audited.read.opens;
 }
   where
     file : MayBe (before.held second) (Some audited.bytes)
     file = told_before before middle name t second (Some audited.bytes) read audited.read.file
-
--- why a plan's file isn't audited is why the command is refused
-pub unaudited_is_cause : (before middle after : FilesView) (name second : List ℕ) (periods : ℕ) (t : TimedView) → IsPlatformRead before name middle t → (refusal : Refusal) →
-    IsUnaudited t periods middle second after refusal → IsCauseFor (audit name second periods) before after refusal
-unaudited_is_cause before middle after name second periods t read usage fault = absurd fault
-unaudited_is_cause before middle after name second periods t read (refused reason) fault = record {
-  outcome = audit_of_file periods t fault.bytes;
-  comes = comes_of (audit name second periods) before middle t (Some fault.bytes) (audit_of_file periods t fault.bytes) read (told_before before middle name t second (Some fault.bytes) read fault.file) refl;
-  refusal = fault.refusal;
-}
-unaudited_is_cause before middle after name second periods t read (cannot_read named) fault = inr (second_fault (audit name second periods) before middle after name second named t read (refl, sym fault.same) fault)
-unaudited_is_cause before middle after name second periods t read no_memory fault = tt
 
 -- what holds of an error holds of the result that has it
 pub of_error : {A E : Type 0} (P : A → Type 0) {Q R : E → Type 0} (r : Result A E) → IsErr r → IsErrAnd r R → ((e : E) → R e → Q e) → MatchResult r P Q
@@ -307,14 +430,3 @@ line_in_parts a x b y c z e f g h =
         ∙ ap (λ xs. a ++ xs) (append_assoc x (b ++ (y ++ (c ++ z))) (10 ∷ []))
         ∙ ap (λ xs. a ++ (x ++ xs)) (append_assoc b (y ++ (c ++ z)) (10 ∷ []))
         ∙ ap (λ xs. a ++ (x ++ (b ++ xs))) (append_assoc y (c ++ z) (10 ∷ []))
-
--- a certificate that is too long
-pub long_is_refused : (t : TimedView) (bytes : List ℕ) → most_bytes < length bytes → check_of_file t bytes ≡ refuses (refused long_certificate)
-long_is_refused t bytes h = rw (lt-ltb most_bytes (length bytes) h) refl
-
--- a plan that is too long
-pub long_plan_refused : (t : TimedView) (periods : ℕ) (bytes : List ℕ) → most_plan_bytes < length bytes → audit_of_file periods t bytes ≡ refuses (refused long_plan)
-long_plan_refused t periods bytes h = rw (lt-ltb most_plan_bytes (length bytes) h) refl
-
-pub short_plan_audited : (t : TimedView) (periods : ℕ) (bytes : List ℕ) → length bytes ≤ most_plan_bytes → audit_of_file periods t bytes ≡ audits periods t bytes
-short_plan_audited t periods bytes h = rw (le-ltb most_plan_bytes (length bytes) h) refl

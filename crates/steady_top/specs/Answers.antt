@@ -1,7 +1,8 @@
 -- What an answer of the program says of the words, the files and the sink (this project).
-use Rattle.std.specs.Prelude.{◌≡◌, ℕ, ◌*◌, nat_abs, List, length, Option, Some, None, Ok, ◌⊎◌}
+use Rattle.std.specs.Prelude.{◌≡◌, ℕ, ◌*◌, ◌≤◌, nat_abs, List, length, map, Option, Some, None, Ok, ◌⊎◌, String, string_bytes}
+use Rattle.std.specs.declared.alloc.Global.{Global}
 use Rattle.outside_io.specs.Files.{Told, untold, absent, contents, FilesView, HasCause}
-use Rattle.outside_io.specs.Faults.{raised}
+use Rattle.outside_io.specs.Faults.{Rose, raised}
 use Rattle.outside_io.specs.Sinks.{SinkView, IsWholeWritten, IsCutOff}
 use Rattle.platform_file.specs.Platform.{PlatformView}
 use Rattle.platform_file.specs.Reading.{platform_of}
@@ -21,10 +22,10 @@ use Rattle.steady_top.specs.declared.status.Status.{Status}
 use Rattle.steady_top.specs.declared.status.Status.TheVariants as status
 use Rattle.period_table.specs.Best.{IsBest}
 use Rattle.plan_text.specs.Texts.{plan_text}
-use Rattle.steady_top.specs.Refusals.{Reason, Refusal, usage, refused, cannot_read, no_memory, reason_status, status_of, error_line}
+use Rattle.steady_top.specs.Refusals.{Reason, Refusal, usage, refused, cannot_read, no_memory, reason_status, files_for, status_of, error_line}
 use Rattle.command_words.specs.Words.{Command, plan, prices, check, audit, command_of}
 use Rattle.steady_top.specs.Audits.{IsAudit}
-use Rattle.steady_top.specs.Outcomes.{first_name, second_name, upper_text, Outcome, IsPrint, IsRefusal, with_file, outcome_for}
+use Rattle.steady_top.specs.Outcomes.{first_name, second_name, files_of, upper_text, Outcome, IsPrint, IsRefusal, with_file, outcome_for}
 
 -- this may be what a name holds of which that is told
 abbrev pub MayBe : Told → Option (List ℕ) → Type 0
@@ -38,9 +39,14 @@ IsToldAs untold file = ⊥
 IsToldAs absent file = file ≡ None
 IsToldAs (contents bytes) file = file ≡ Some bytes
 
--- the files tell all that they hold, and it is this
-abbrev pub AreToldAs : FilesView → (List ℕ → Option (List ℕ)) → Type 0
-AreToldAs before files = (name : List ℕ) → IsToldAs (before.held name) (files name)
+-- the files tell what a command's names hold, and it is this
+abbrev pub AreNamesToldAs : FilesView → Command → (List ℕ → Option (List ℕ)) → Type 0
+AreNamesToldAs before command files =
+    IsToldAs (before.held (first_name command)) (files (first_name command)) × IsToldAs (before.held (second_name command)) (files (second_name command))
+
+-- the files tell what the names of the words' command hold, and it is this; nothing is asked of other names
+abbrev pub AreToldAs : FilesView → List (List ℕ) → (List ℕ → Option (List ℕ)) → Type 0
+AreToldAs before words files = (command : Command) → command_of words ≡ Some command → AreNamesToldAs before command files
 
 -- a command comes to this, with what its names may hold
 pub record ComesTo (command : Command) (before : FilesView) (outcome : Outcome) : Type 0 where
@@ -105,27 +111,34 @@ IsClaim (prices name series pivots) before text = IsPricedText pivots before nam
 IsClaim (check name second series) before text = IsCheckedText before name second text
 IsClaim (audit name other periods) before text = IsAuditedText periods before name other text
 
--- a command comes to a refusal
-pub record IsRefusedFor (command : Command) (before : FilesView) (reason : Reason) : Type 0 where
+-- in a call so many files were opened, as far as the count of opens goes
+abbrev pub AreOpened : ℕ → FilesView → FilesView → Type 0
+AreOpened count before after = after.opens ≡ raised before.opens count
+
+-- a command comes to a refusal, behind the files that are read for it
+pub record IsRefusedFor (command : Command) (before after : FilesView) (reason : Reason) : Type 0 where
   pub outcome : Outcome
   pub comes : ComesTo command before outcome
   pub refusal : IsRefusal outcome (refused reason)
+  pub few : files_for reason ≤ files_of command
+  pub opens : AreOpened (files_for reason) before after
 
--- a command's text is due, where no call of the files failed, and is what it claims
+-- a command's text is due, where no call of the files failed, and is what it claims; each of the command's files was opened once
 pub record IsMade (command : Command) (before after : FilesView) (text : List ℕ) : Type 0 where
   pub outcome : Outcome
   pub comes : ComesTo command before outcome
   pub due : IsPrint outcome text
   pub claim : IsClaim command before text
   pub calm : after.faults ≡ before.faults
+  pub opens : AreOpened (files_of command) before after
 
 -- the first file of a command couldn't be opened or read, in the one open of the call
-pub record IsFirstFault (command : Command) (before after : FilesView) (name : List ℕ) : Type 0 where
+pub record IsFirstUnread (command : Command) (before after : FilesView) (name : List ℕ) : Type 0 where
   pub is_first : name ≡ first_name command
   pub cause : HasCause before name after
-  pub one_open : after.opens ≡ raised before.opens 1
+  pub opens : AreOpened 1 before after
 
--- the command opens these two files
+-- the command opens these two files, where the first is a platform's
 abbrev pub Opens : Command → List ℕ → List ℕ → Type 0
 Opens (plan name series pivots) first second = ⊥
 Opens (prices name series pivots) first second = ⊥
@@ -133,21 +146,27 @@ Opens (check name certificate series) first second = (name ≡ first) × (certif
 Opens (audit name other periods) first second = (name ≡ first) × (other ≡ second)
 
 -- behind a platform that was read, the second file of a command couldn't be opened or read, in the second open of the call
-pub record IsSecondFault (command : Command) (before after : FilesView) (name : List ℕ) : Type 0 where
+pub record IsSecondUnread (command : Command) (before after : FilesView) (name : List ℕ) : Type 0 where
   pub first : List ℕ
-  pub opens : Opens command first name
+  pub pair : Opens command first name
   pub timed : TimedView
   pub platform : IsPlatformOf before first timed
   pub short : (next : TimedView → Outcome) → with_file next platform.bytes ≡ next timed
   pub cause : HasCause before name after
-  pub two_opens : after.opens ≡ raised (raised before.opens 1) 1
+  pub opens : AreOpened 2 before after
+
+-- memory ran out, behind no more files than the command has
+pub record IsOutOfMemory (command : Command) (before after : FilesView) : Type 0 where
+  pub count : ℕ
+  pub few : count ≤ files_of command
+  pub opens : AreOpened count before after
 
 -- why a command is refused; memory may run out at any time
 abbrev pub IsCauseFor : Command → FilesView → FilesView → Refusal → Type 0
-IsCauseFor command before after (cannot_read name) = IsFirstFault command before after name ⊎ IsSecondFault command before after name
-IsCauseFor command before after no_memory = Unit {0}
+IsCauseFor command before after (cannot_read name) = IsFirstUnread command before after name ⊎ IsSecondUnread command before after name
+IsCauseFor command before after no_memory = IsOutOfMemory command before after
 IsCauseFor command before after usage = ⊥
-IsCauseFor command before after (refused reason) = IsRefusedFor command before reason
+IsCauseFor command before after (refused reason) = IsRefusedFor command before after reason
 
 -- the words give a command of which this holds
 pub record IsOfCommand (words : List (List ℕ)) (P : Command → Type 0) : Type 0 where
@@ -155,65 +174,81 @@ pub record IsOfCommand (words : List (List ℕ)) (P : Command → Type 0) : Type
   pub given : command_of words ≡ Some command
   pub holds : P command
 
--- a refusal with its cause
+-- a refusal with its cause; where the words are no command, or memory ran out before one is known, the files are as they were
 abbrev pub IsCause : List (List ℕ) → FilesView → FilesView → Refusal → Type 0
-IsCause words before after usage = command_of words ≡ None
-IsCause words before after no_memory = Unit {0}
+IsCause words before after usage = (command_of words ≡ None) × (after ≡ before)
+IsCause words before after no_memory = (after ≡ before) ⊎ IsOfCommand words (λ command. IsCauseFor command before after no_memory)
 IsCause words before after refusal = IsOfCommand words (λ command. IsCauseFor command before after refusal)
 
 -- a text that is due to the words, and what it is
 abbrev pub IsAnswer : List (List ℕ) → FilesView → FilesView → List ℕ → Type 0
 IsAnswer words before after text = IsOfCommand words (λ command. IsMade command before after text)
 
+-- a call of the program: its words, and what is known of the files and of the sink before it and after it
+pub record Call : Type 0 where
+  pub words : List (List ℕ)
+  pub before : FilesView
+  pub after : FilesView
+  pub out_before : SinkView
+  pub out_after : SinkView
+
+-- a call with these words, as the code keeps them
+abbrev pub call_of : List (String Global) → FilesView → FilesView → SinkView → SinkView → Call
+call_of words before after out_before out_after = record { words = map string_bytes words; before = before; after = after; out_before = out_before; out_after = out_after }
+
 -- a text was printed whole, as it was to be, and is what it claims
-pub record IsPrinted (words : List (List ℕ)) (before after : FilesView) (empty full : SinkView) : Type 0 where
+pub record IsPrinted (call : Call) : Type 0 where
   pub text : List ℕ
-  pub answer : IsAnswer words before after text
-  pub written : IsWholeWritten empty text full
+  pub answer : IsAnswer call.words call.before call.after text
+  pub written : IsWholeWritten call.out_before text call.out_after
 
 -- the error line of a refusal was written whole, and the refusal has its cause
-pub record IsRefused (words : List (List ℕ)) (before after : FilesView) (empty full : SinkView) (refusal : Refusal) : Type 0 where
-  pub cause : IsCause words before after refusal
-  pub written : IsWholeWritten empty (error_line refusal) full
+pub record IsRefused (call : Call) (refusal : Refusal) : Type 0 where
+  pub cause : IsCause call.words call.before call.after refusal
+  pub written : IsWholeWritten call.out_before (error_line refusal) call.out_after
 
 -- a refusal's error line, with its cause
-pub record IsDueLine (words : List (List ℕ)) (before after : FilesView) (text : List ℕ) : Type 0 where
+pub record IsDueLine (call : Call) (text : List ℕ) : Type 0 where
   pub refusal : Refusal
-  pub cause : IsCause words before after refusal
+  pub cause : IsCause call.words call.before call.after refusal
   pub is_line : text ≡ error_line refusal
 
--- a write failed, and a front of the text is out
-pub record IsCutShort (words : List (List ℕ)) (before after : FilesView) (empty full : SinkView) : Type 0 where
+-- a write failed, and a prefix of the text is out
+pub record IsCutShort (call : Call) : Type 0 where
   pub text : List ℕ
-  pub due : IsAnswer words before after text ⊎ IsDueLine words before after text
-  pub cut : IsCutOff empty text full
+  pub due : IsAnswer call.words call.before call.after text ⊎ IsDueLine call text
+  pub cut : IsCutOff call.out_before text call.out_after
 
 -- what was read was refused for a reason of this status
-pub record IsRefusedWith (due : Status) (words : List (List ℕ)) (before after : FilesView) (empty full : SinkView) : Type 0 where
+pub record IsRefusedWith (due : Status) (call : Call) : Type 0 where
   pub reason : Reason
   pub is : reason_status reason ≡ due
-  pub refusal : IsRefused words before after empty full (refused reason)
+  pub refusal : IsRefused call (refused reason)
+
+-- no call on the files or on the sink failed
+pub record IsCalm (call : Call) : Type 0 where
+  pub files : Rose call.before.faults call.after.faults → ⊥
+  pub out : Rose call.out_before.faults call.out_after.faults → ⊥
 
 -- the text that is due was written, with its status, or a write failed
 abbrev pub Ends : Status → List ℕ → SinkView → SinkView → Status → Type 0
-Ends due text empty full result = ((result ≡ due) × IsWholeWritten empty text full) ⊎ ((result ≡ status.WriteFault) × IsCutOff empty text full)
+Ends due text before after result = ((result ≡ due) × IsWholeWritten before text after) ⊎ ((result ≡ status.WriteFault) × IsCutOff before text after)
 
 -- a text was to be printed
-pub record IsPrintAttempt (words : List (List ℕ)) (before after : FilesView) (empty full : SinkView) (result : Status) : Type 0 where
+pub record IsPrintAttempt (call : Call) (result : Status) : Type 0 where
   pub text : List ℕ
-  pub answer : IsAnswer words before after text
-  pub ends : Ends status.Done text empty full result
+  pub answer : IsAnswer call.words call.before call.after text
+  pub ends : Ends status.Done text call.out_before call.out_after result
 
 -- a refusal's error line was to be written
-pub record IsRefusalAttempt (words : List (List ℕ)) (before after : FilesView) (empty full : SinkView) (result : Status) : Type 0 where
+pub record IsRefusalAttempt (call : Call) (result : Status) : Type 0 where
   pub refusal : Refusal
-  pub cause : IsCause words before after refusal
-  pub ends : Ends (status_of refusal) (error_line refusal) empty full result
+  pub cause : IsCause call.words call.before call.after refusal
+  pub ends : Ends (status_of refusal) (error_line refusal) call.out_before call.out_after result
 
 -- the program ends in one of these ways
-abbrev pub IsResponse : List (List ℕ) → FilesView → FilesView → SinkView → SinkView → Status → Type 0
-IsResponse words before after empty full result =
-    IsPrintAttempt words before after empty full result ⊎ IsRefusalAttempt words before after empty full result
+abbrev pub IsResponse : Call → Status → Type 0
+IsResponse call result = IsPrintAttempt call result ⊎ IsRefusalAttempt call result
 
 -- the fact holds of the one or the other
 abbrev pub IsOneOf : Refusal → Refusal → (Refusal → Type 0) → Type 0

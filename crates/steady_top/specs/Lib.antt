@@ -5,3 +5,4 @@ pub mod Answers
 pub mod Exits
 pub mod Faults
 pub mod Planned
+pub mod Ends

@@ -42,6 +42,13 @@ second_name (prices name series pivots) = name
 second_name (check name certificate series) = certificate
 second_name (audit name other periods) = other
 
+-- how many files a command opens where none refuses
+abbrev pub files_of : Command → ℕ
+files_of (plan name series pivots) = 1
+files_of (prices name series pivots) = 1
+files_of (check name certificate series) = 2
+files_of (audit name other periods) = 2
+
 -- the program prints these bytes, prints the plan of a platform that is found with at most so many pivots, audits the bytes of a plan over
 -- so many periods, or refuses
 pub data Outcome : Type 0 where

@@ -1,7 +1,8 @@
--- What reading a named platform file comes to, and a named certificate (this project).
-use Rattle.std.specs.Prelude.{◌≡◌, ℕ, ◌*◌, ◌≤◌, nat_abs, List, length, Some, Ok}
+-- What reading a named file comes to: a platform's, and a certificate's or a plan's behind it (this project).
+use Rattle.std.specs.Prelude.{◌≡◌, ℕ, ◌+◌, ◌*◌, ◌≤◌, ◌⊎◌, nat_abs, List, length, Some, Ok}
 use Rattle.outside_io.specs.Files.{FilesView, HasCause}
-use Rattle.outside_io.specs.Faults.{raised}
+use Rattle.outside_io.specs.Reading.{MayPass}
+use Rattle.platform_file.specs.Reading.{most_bytes}
 use Rattle.platform_file.specs.Ticks.{TimedView}
 use Rattle.schedule_model.specs.declared.schedule.Series.TheVariants.{Tasking}
 use Rattle.schedule_model.specs.Throughput.{IsUpperRate}
@@ -16,15 +17,26 @@ use Rattle.planner.specs.Plans.{IsPlan}
 use Rattle.planner.specs.Prices.{prices_of, IsBestCertificate}
 use Rattle.plan_text.specs.Texts.{plan_text}
 use Rattle.period_table.specs.Best.{IsBest}
-use Rattle.steady_top.specs.Refusals.{Reason, Refusal, usage, refused, cannot_read, no_memory}
-use Rattle.steady_top.specs.Outcomes.{Outcome, audits, refuses, IsRefusal, with_file, judged_reading, check_of_file, upper_text, most_plan_bytes, audit_of_file}
+use Rattle.steady_top.specs.Refusals.{Reason, Refusal, usage, refused, cannot_read, no_memory, files_for}
+use Rattle.steady_top.specs.Outcomes.{Outcome, refuses, IsRefusal, with_file, judged_reading, upper_text, most_plan_bytes}
 use Rattle.schedule_model.specs.declared.schedule.Series.{Series}
 use Rattle.schedule_model.specs.declared.schedule.Schedule.{Schedule}
 use Rattle.period_table.specs.declared.table.Table.{Table}
 use Rattle.period_table.specs.TableSchedules.{ops_below, table_schedule}
 use Rattle.plan_text.specs.Reading.{IsPlanOf}
 use Rattle.steady_top.specs.Audits.{most_operations, IsReason, IsAudit}
-use Rattle.steady_top.specs.Answers.{MayBe, IsPlatformOf}
+use Rattle.steady_top.specs.Answers.{MayBe, AreOpened, IsPlatformOf}
+
+-- a named file has no bytes to go on with: it can't be opened or read, it is longer than so many bytes, which is the refusal `long`, or
+-- memory ran out
+abbrev pub UnreadCause : FilesView → List ℕ → ℕ → Refusal → FilesView → Refusal → Type 0
+UnreadCause before name most long after refusal =
+    ((refusal ≡ cannot_read name) × HasCause before name after) ⊎ (((refusal ≡ long) × MayPass (before.held name) most) ⊎ (refusal ≡ no_memory))
+
+-- why the bytes of a file aren't read, in one open
+pub record IsUnread (before : FilesView) (name : List ℕ) (most : ℕ) (long : Refusal) (after : FilesView) (refusal : Refusal) : Type 0 where
+  pub opens : AreOpened 1 before after
+  pub cause : UnreadCause before name most long after refusal
 
 -- the platform of the file was read and brought into ticks, in one open
 pub record IsPlatformRead (before : FilesView) (name : List ℕ) (after : FilesView) (t : TimedView) : Type 0 where
@@ -32,47 +44,57 @@ pub record IsPlatformRead (before : FilesView) (name : List ℕ) (after : FilesV
   pub short : (next : TimedView → Outcome) → with_file next platform.bytes ≡ next t
   pub calm : after.faults ≡ before.faults
   pub held : (other : List ℕ) → after.held other ≡ before.held other
-  pub one_open : after.opens ≡ raised before.opens 1
+  pub opens : AreOpened 1 before after
 
 -- what was read of a platform file is refused, whatever was to come of it
 pub record IsFileRefused (before : FilesView) (name : List ℕ) (reason : Reason) : Type 0 where
   pub bytes : List ℕ
   pub file : MayBe (before.held name) (Some bytes)
   pub outcome : (next : TimedView → Outcome) → with_file next bytes ≡ refuses (refused reason)
+  pub first : files_for reason ≡ 1
 
 -- the file can't be opened or read
 pub record IsFileFault (before : FilesView) (name : List ℕ) (after : FilesView) (named : List ℕ) : Type 0 where
   pub same : named ≡ name
   pub cause : HasCause before name after
-  pub one_open : after.opens ≡ raised before.opens 1
 
 -- why a platform file isn't read: by the file alone, never by the words
-abbrev pub IsPlatformFault : FilesView → List ℕ → FilesView → Refusal → Type 0
-IsPlatformFault before name after (cannot_read named) = IsFileFault before name after named
-IsPlatformFault before name after no_memory = Unit {0}
-IsPlatformFault before name after usage = ⊥
-IsPlatformFault before name after (refused reason) = IsFileRefused before name reason
+abbrev pub PlatformCause : FilesView → List ℕ → FilesView → Refusal → Type 0
+PlatformCause before name after (cannot_read named) = IsFileFault before name after named
+PlatformCause before name after no_memory = Unit {0}
+PlatformCause before name after usage = ⊥
+PlatformCause before name after (refused reason) = IsFileRefused before name reason
 
--- the certificate of the file was read
-pub record IsCertificateRead (t : TimedView) (before : FilesView) (name : List ℕ) (after : FilesView) (c : CertificateView) : Type 0 where
-  pub bytes : List ℕ
+-- a platform file isn't read, in one open
+pub record IsPlatformFault (before : FilesView) (name : List ℕ) (after : FilesView) (refusal : Refusal) : Type 0 where
+  pub opens : AreOpened 1 before after
+  pub cause : PlatformCause before name after refusal
+
+-- the bytes of a second file were read, in one open
+pub record IsSecondRead (before : FilesView) (name : List ℕ) (most : ℕ) (after : FilesView) (bytes : List ℕ) : Type 0 where
   pub file : MayBe (before.held name) (Some bytes)
-  pub read : certificate_of Tasking (length (tasking_programme t).rows) bytes ≡ Ok c
-  pub short : check_of_file t bytes ≡ judged_reading t (Ok c)
+  pub size : length bytes ≤ most
   pub calm : after.faults ≡ before.faults
+  pub opens : AreOpened 1 before after
 
--- what was read of a certificate file is refused
-pub record IsCertificateRefused (t : TimedView) (before : FilesView) (name : List ℕ) (reason : Reason) : Type 0 where
+-- what was read of a second file is refused, where its bytes have these outcomes
+pub record IsSecondRefused (outcome : List ℕ → Outcome) (before : FilesView) (name : List ℕ) (reason : Reason) : Type 0 where
   pub bytes : List ℕ
   pub file : MayBe (before.held name) (Some bytes)
-  pub outcome : check_of_file t bytes ≡ refuses (refused reason)
+  pub refusal : IsRefusal (outcome bytes) (refused reason)
+  pub second : files_for reason ≡ 2
 
--- why a certificate file isn't read
-abbrev pub IsCertificateFault : TimedView → FilesView → List ℕ → FilesView → Refusal → Type 0
-IsCertificateFault t before name after (cannot_read named) = IsFileFault before name after named
-IsCertificateFault t before name after no_memory = Unit {0}
-IsCertificateFault t before name after usage = ⊥
-IsCertificateFault t before name after (refused reason) = IsCertificateRefused t before name reason
+-- why nothing comes of a second file
+abbrev pub SecondCause : (List ℕ → Outcome) → FilesView → List ℕ → FilesView → Refusal → Type 0
+SecondCause outcome before name after (cannot_read named) = IsFileFault before name after named
+SecondCause outcome before name after no_memory = Unit {0}
+SecondCause outcome before name after usage = ⊥
+SecondCause outcome before name after (refused reason) = IsSecondRefused outcome before name reason
+
+-- nothing comes of a second file, in one open
+pub record IsSecondFault (outcome : List ℕ → Outcome) (before : FilesView) (name : List ℕ) (after : FilesView) (refusal : Refusal) : Type 0 where
+  pub opens : AreOpened 1 before after
+  pub cause : SecondCause outcome before name after refusal
 
 -- the certificate proves that no schedule exceeds its rate, and the text says so
 pub record IsProved (t : TimedView) (c : CertificateView) (text : List ℕ) : Type 0 where
@@ -87,15 +109,21 @@ MayRefuse outcome usage = ⊥
 MayRefuse outcome (cannot_read name) = ⊥
 MayRefuse outcome (refused reason) = outcome ≡ refuses (refused reason)
 
--- the certificate is refused so
-abbrev pub IsJudged : TimedView → CertificateView → Refusal → Type 0
-IsJudged t c refusal = MayRefuse (judged_reading t (Ok c)) refusal
+-- what comes of the bytes of a certificate within its limit
+abbrev pub check_of_bytes : TimedView → List ℕ → Outcome
+check_of_bytes t bytes = judged_reading t (certificate_of Tasking (length (tasking_programme t).rows) bytes)
+
+-- the bytes are a certificate that proves, and the text says what
+pub record IsCheck (t : TimedView) (bytes text : List ℕ) : Type 0 where
+  pub certificate : CertificateView
+  pub read : certificate_of Tasking (length (tasking_programme t).rows) bytes ≡ Ok certificate
+  pub proved : IsProved t certificate text
 
 -- the certificate of the file was read and proves, and the text says what
 pub record IsChecked (t : TimedView) (before : FilesView) (name : List ℕ) (after : FilesView) (text : List ℕ) : Type 0 where
-  pub certificate : CertificateView
-  pub read : IsCertificateRead t before name after certificate
-  pub proved : IsProved t certificate text
+  pub bytes : List ℕ
+  pub read : IsSecondRead before name most_bytes after bytes
+  pub check : IsCheck t bytes text
 
 -- the text is that of a plan of the platform, whose table is best
 pub record IsBestPlan (pivots : ℕ) (t : TimedView) (text : List ℕ) : Type 0 where
@@ -111,26 +139,6 @@ pub record IsBestPrices (pivots : ℕ) (t : TimedView) (text : List ℕ) : Type 
   pub best : IsBestCertificate t certificate
   pub rate : IsUpperRate t Tasking (nat_abs certificate.best * t.unit) (nat_abs certificate.scale)
   pub is_certificate : text ≡ certificate_text Tasking certificate
-
--- the bytes of a plan's file were read
-pub record IsPlanRead (t : TimedView) (periods : ℕ) (before : FilesView) (name : List ℕ) (after : FilesView) (bytes : List ℕ) : Type 0 where
-  pub file : MayBe (before.held name) (Some bytes)
-  pub size : length bytes ≤ most_plan_bytes
-  pub short : audit_of_file periods t bytes ≡ audits periods t bytes
-  pub calm : after.faults ≡ before.faults
-
--- what was read of a plan's file is refused
-pub record IsPlanRefused (t : TimedView) (periods : ℕ) (before : FilesView) (name : List ℕ) (reason : Reason) : Type 0 where
-  pub bytes : List ℕ
-  pub file : MayBe (before.held name) (Some bytes)
-  pub outcome : audit_of_file periods t bytes ≡ refuses (refused reason)
-
--- why a plan's file isn't read
-abbrev pub IsPlanFault : TimedView → ℕ → FilesView → List ℕ → FilesView → Refusal → Type 0
-IsPlanFault t periods before name after (cannot_read named) = IsFileFault before name after named
-IsPlanFault t periods before name after no_memory = Unit {0}
-IsPlanFault t periods before name after usage = ⊥
-IsPlanFault t periods before name after (refused reason) = IsPlanRefused t periods before name reason
 
 -- the schedule is that of the plan, and isn't too long
 pub record IsScheduleOf (periods : ℕ) (t : TimedView) (bytes : List ℕ) (series : Series) (schedule : Schedule) : Type 0 where
@@ -149,18 +157,5 @@ IsAuditFault periods t bytes (refused reason) = IsReason periods t bytes reason
 -- the plan of the file was read, and the text has its numbers
 pub record IsAudited (t : TimedView) (periods : ℕ) (before : FilesView) (name : List ℕ) (after : FilesView) (text : List ℕ) : Type 0 where
   pub bytes : List ℕ
-  pub read : IsPlanRead t periods before name after bytes
+  pub read : IsSecondRead before name most_plan_bytes after bytes
   pub audit : IsAudit periods t bytes text
-
--- what was read of a plan's file, or its schedule, is refused
-pub record IsAuditRefused (t : TimedView) (periods : ℕ) (before : FilesView) (name : List ℕ) (reason : Reason) : Type 0 where
-  pub bytes : List ℕ
-  pub file : MayBe (before.held name) (Some bytes)
-  pub refusal : IsRefusal (audit_of_file periods t bytes) (refused reason)
-
--- why a plan's file isn't audited
-abbrev pub IsUnaudited : TimedView → ℕ → FilesView → List ℕ → FilesView → Refusal → Type 0
-IsUnaudited t periods before name after (cannot_read named) = IsFileFault before name after named
-IsUnaudited t periods before name after no_memory = Unit {0}
-IsUnaudited t periods before name after usage = ⊥
-IsUnaudited t periods before name after (refused reason) = IsAuditRefused t periods before name reason

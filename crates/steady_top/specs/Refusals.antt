@@ -86,6 +86,22 @@ reason_status long_operations = status.TooLong
 reason_status (plan_line number) = status.Refused
 reason_status (breach index rule) = status.Refused
 
+-- how many files have been opened where what was read is refused: the platform's, and the certificate's or the plan's behind it
+abbrev pub files_for : Reason → ℕ
+files_for (no_platform fault) = 1
+files_for (no_ticks fault) = 1
+files_for (no_plan fault) = 1
+files_for long_certificate = 2
+files_for (certificate_line number) = 2
+files_for (negative_price row) = 2
+files_for (uncovered_column column) = 2
+files_for passed_value = 2
+files_for (check_overflow column) = 2
+files_for long_plan = 2
+files_for (plan_line number) = 2
+files_for long_operations = 2
+files_for (breach index rule) = 2
+
 -- the status with which a refusal ends the program
 abbrev pub status_of : Refusal → Status
 status_of usage = status.Usage

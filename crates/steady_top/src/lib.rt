@@ -1,8 +1,11 @@
 //! Steady's top call: from the words and the bytes of the files that they name to one text or one error line.
 #![tactic(auto)]
 
+mod auditing;
+mod checking;
 mod fault;
 mod planning;
+mod reading;
 mod status;
 mod top;
 

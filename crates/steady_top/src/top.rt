@@ -1,15 +1,15 @@
 //! The top call: from the words and the bytes of a file to the bytes of an answer.
 
-ghost use Rattle.std.specs.Prelude.{◌≡◌, ◌⊎◌, ℕ, List, None, Option, map, string_bytes, MatchResult};
-ghost use Rattle.outside_io.specs.Faults.{Rose};
+ghost use Rattle.std.specs.Prelude.{map, string_bytes, MatchResult};
 ghost use Rattle.steady_top.specs.Faults.{refusal_of};
-ghost use Rattle.steady_top.specs.Refusals.{Refusal, status_of, usage, cannot_read, no_memory, error_line};
-ghost use Rattle.steady_top.specs.Outcomes.{outcome_of, IsText, IsRefusal};
-ghost use Rattle.command_words.specs.Words.{command_of};
-ghost use Rattle.steady_top.specs.Answers.{AreToldAs, IsAnswer, IsCause, IsPrinted, IsRefused, IsRefusedWith, IsCutShort, IsResponse, IsOneOf, Ends};
+ghost use Rattle.steady_top.specs.Refusals.{status_of, no_memory, error_line};
+ghost use Rattle.steady_top.specs.Answers.{IsAnswer, IsCause, call_of, IsResponse, IsOneOf, Ends};
+ghost use Rattle.steady_top.specs.Ends.{IsEnd};
 
+use crate::auditing::audit;
+use crate::checking::check;
 use crate::fault::TopFault;
-use crate::planning::{audit, check, plan, prices};
+use crate::planning::{plan, prices};
 use crate::status::Status;
 use command_words::{Command, WordsFault, command_in};
 use listed::NoMemory;
@@ -83,7 +83,7 @@ pub fn refuse<S: Sink>(alloc: Global, fault: &TopFault, out: &mut S) -> Status
 
 /// The whole of the work, with all that is known of how it ends.
 fn respond<F: Files, S: Sink>(alloc: Global, words: &[String], files: &mut F, out: &mut S) -> Status
-    ensures { IsResponse (map string_bytes words.now) (F.state files.old) (F.state files.new) (S.state out.old) (S.state out.new) result }
+    ensures { IsResponse (call_of words.now (F.state files.old) (F.state files.new) (S.state out.old) (S.state out.new)) result }
 {
     match answer(alloc, words, files) {
         Ok(text) => finish(out, text.as_bytes(), Status::Done),
@@ -95,49 +95,16 @@ fn respond<F: Files, S: Sink>(alloc: Global, words: &[String], files: &mut F, ou
 ///
 /// `plan FILE` prints the plan of the platform in the file, `prices FILE` the certificate of its best rate, both found with at most as
 /// many pivots as `--pivots` says. `check FILE CERTIFICATE` prints the rate that the certificate proves for it, and `audit FILE PLAN` what
-/// the plan completes on it over as many periods as `--periods` says. All of a text is made before its first byte is written.
+/// the plan completes on it over as many periods as `--periods` says. All of a text is made before its first byte is written, and each file
+/// of a command is opened once, the second one behind a platform that was read.
 pub fn steady<F: Files, S: Sink>(
     alloc: Global,
     words: &[String],
     files: &mut F,
     out: &mut S,
 ) -> Status
-    // Done only where the definitions print a text for the words and the files, just that text was written, and it is what its command
-    // claims: the text of a best table, the certificate of the best rate, a rate that a certificate proves, or what a plan completes by a
-    // schedule that keeps every rule.
-    ensures done { result ≡ Status.Done
-        → IsPrinted (map string_bytes words.now) (F.state files.old) (F.state files.new) (S.state out.old) (S.state out.new) }
-
-    // Each refusal comes with its cause, and its one error line was written.
-    ensures usage { result ≡ Status.Usage
-        → IsRefused (map string_bytes words.now) (F.state files.old) (F.state files.new) (S.state out.old) (S.state out.new) usage }
-    ensures platform { result ≡ Status.Platform
-        → IsRefusedWith Status.Platform (map string_bytes words.now) (F.state files.old) (F.state files.new) (S.state out.old) (S.state out.new) }
-    ensures overflow { result ≡ Status.Overflow
-        → IsRefusedWith Status.Overflow (map string_bytes words.now) (F.state files.old) (F.state files.new) (S.state out.old) (S.state out.new) }
-    ensures spent { result ≡ Status.Spent
-        → IsRefusedWith Status.Spent (map string_bytes words.now) (F.state files.old) (F.state files.new) (S.state out.old) (S.state out.new) }
-    ensures too_long { result ≡ Status.TooLong
-        → IsRefusedWith Status.TooLong (map string_bytes words.now) (F.state files.old) (F.state files.new) (S.state out.old) (S.state out.new) }
-    ensures refused { result ≡ Status.Refused
-        → IsRefusedWith Status.Refused (map string_bytes words.now) (F.state files.old) (F.state files.new) (S.state out.old) (S.state out.new) }
-    ensures read_fault { result ≡ Status.ReadFault
-        → (name : List ℕ) × IsRefused (map string_bytes words.now) (F.state files.old) (F.state files.new) (S.state out.old) (S.state out.new) (cannot_read name) }
-    ensures memory { result ≡ Status.NoMemory
-        → IsRefused (map string_bytes words.now) (F.state files.old) (F.state files.new) (S.state out.old) (S.state out.new) no_memory }
-    ensures write_fault { result ≡ Status.WriteFault
-        → IsCutShort (map string_bytes words.now) (F.state files.old) (F.state files.new) (S.state out.old) (S.state out.new) }
-
-    // Where the files tell what they hold and nothing failed, the answer is the one that the definitions give, or out of memory.
-    ensures complete { (holds : List ℕ → Option (List ℕ)) → AreToldAs (F.state files.old) holds → IsText (outcome_of (map string_bytes words.now) holds)
-        → ¬ (Rose (F.state files.old).faults (F.state files.new).faults) → ¬ (Rose (S.state out.old).faults (S.state out.new).faults)
-        → (result ≡ Status.Done) ⊎ (result ≡ Status.NoMemory) }
-    ensures exact { (holds : List ℕ → Option (List ℕ)) (refusal : Refusal) → AreToldAs (F.state files.old) holds → IsRefusal (outcome_of (map string_bytes words.now) holds) refusal
-        → ¬ (Rose (F.state files.old).faults (F.state files.new).faults) → ¬ (Rose (S.state out.old).faults (S.state out.new).faults)
-        → (result ≡ status_of refusal) ⊎ (result ≡ Status.NoMemory) }
-    // Words that are no command are refused, whatever the files are.
-    ensures no_command { command_of (map string_bytes words.now) ≡ None → ¬ (Rose (S.state out.old).faults (S.state out.new).faults)
-        → (result ≡ Status.Usage) ⊎ (result ≡ Status.NoMemory) }
+    // What each status says stands in `IsEnd`, a field a status, and behind them when the answer is the one that the definitions give.
+    ensures { IsEnd (call_of words.now (F.state files.old) (F.state files.new) (S.state out.old) (S.state out.new)) result }
 {
     respond(alloc, words, files, out)
 }

@@ -2,7 +2,7 @@ use Rattle.std.proofs.Common.{rules, ◌≡◌, ◌∙◌, ℕ, ◌+◌, ◌-◌
 use Rattle.std.proofs.Math.Seq.{take-add, take-append_seam}
 use Rattle.outside_io.proofs.files.read_through.Goals as goal
 
--- the front of a buffer into which bytes were read
+-- the beginning of a buffer into which bytes were read
 read_front : (file old : List ℕ) (taken count : ℕ) → taken + count ≤ length file →
     take count (slice_range file taken (taken + count) ++ drop count old) ≡ take count (drop taken file)
 read_front file old taken count h =

@@ -1,8 +1,8 @@
-use Rattle.std.proofs.Common.{Some, string_bytes, sym, subst}
+use Rattle.std.proofs.Common.{string_bytes, sym, subst}
 use Rattle.command_words.specs.Words.{prices}
 use Rattle.steady_top.specs.Faults.{refusal_of}
 use Rattle.steady_top.specs.Answers.{IsMade, IsCauseFor}
-use Rattle.steady_top.proofs.Works.{platform_fault, refused_is_cause, of_error, both_ways, priced_is_made}
+use Rattle.steady_top.proofs.Works.{platform_fault, unpriced_is_cause, of_error, both_ways, priced_is_made}
 use Rattle.steady_top.proofs.planning.prices.Goals as goal
 
 pub returns : goal.returns
@@ -11,7 +11,7 @@ returns g c =
     let after = g.F.Files.state c.read_timed.new.files in
     let read = c.in_ok-timed.ensures in
     both_ways c.prices_of.result (λ text. priced_is_made before after c.args.name.now c.args.series c.args.pivots c.in_ok-timed.timed (string_bytes text) read)
-    (λ e. refused_is_cause (prices c.args.name.now c.args.series c.args.pivots) before after after c.in_ok-timed.timed (Some read.platform.bytes) read read.platform.file (refusal_of e)) c.prices_of.ensures
+    (λ e. unpriced_is_cause before after c.args.name.now c.args.series c.args.pivots c.in_ok-timed.timed read (refusal_of e)) c.prices_of.ensures
 
 pub returns-in_err-timed : goal.returns-in_err-timed
 returns-in_err-timed g c =

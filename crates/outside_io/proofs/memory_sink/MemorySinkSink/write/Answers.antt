@@ -1,7 +1,7 @@
 use Rattle.std.proofs.lemmas.Grind.{common_steps}
 use Rattle.std.proofs.Common.{rules, arith, refl, inl, inr}
 use Rattle.outside_io.proofs.memory_sink.MemorySinkSink.write.Goals as goal
-use Rattle.outside_io.proofs.memory_sink.MemorySinkSink.write.Goals.{then-contains-via-then-contains, then-contains-via-else-contains+then-not-is_empty, then-room-eq0, else-room-eq0}
+use Rattle.outside_io.proofs.memory_sink.MemorySinkSink.write.Goals.{then-contains-via-then-contains, then-contains-via-else-contains+then-not-is_empty}
 
 pub returns-then-contains-clause-exact : goal.returns-then-contains-clause-exact
 returns-then-contains-clause-exact c = (

@@ -2,8 +2,8 @@ use Rattle.std.proofs.Common.{string_bytes, sym, subst}
 use Rattle.steady_top.specs.Faults.{refusal_of}
 use Rattle.command_words.specs.Words.{check}
 use Rattle.steady_top.specs.Answers.{IsMade, IsCauseFor}
-use Rattle.steady_top.proofs.Works.{platform_fault, certificate_fault, of_error, checked_is_made, both_ways}
-use Rattle.steady_top.proofs.planning.check.Goals as goal
+use Rattle.steady_top.proofs.Works.{platform_fault, unchecked_is_cause, of_error, checked_is_made, both_ways}
+use Rattle.steady_top.proofs.checking.check.Goals as goal
 
 pub returns-in_err-timed : goal.returns-in_err-timed
 returns-in_err-timed g c =
@@ -20,4 +20,4 @@ returns g c =
     let after = g.F.Files.state c.check_over.new.files in
     let read = c.in_ok-timed.ensures in
     both_ways c.check_over.result (λ text. checked_is_made before middle after c.args.name.now c.args.second.now c.args.series c.in_ok-timed.timed read (string_bytes text))
-    (λ e. certificate_fault before middle after c.args.name.now c.args.second.now c.args.series c.in_ok-timed.timed read (refusal_of e)) c.check_over.ensures
+    (λ e. unchecked_is_cause before middle after c.args.name.now c.args.second.now c.args.series c.in_ok-timed.timed read (refusal_of e)) c.check_over.ensures

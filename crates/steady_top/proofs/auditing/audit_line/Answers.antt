@@ -1,7 +1,7 @@
 use Rattle.std.proofs.Common.{rules, ◌≡◌, ◌++◌, [], codes, decimal, string_bytes}
 use Rattle.text_lines.specs.Lines.{line}
 use Rattle.steady_top.proofs.Works.{line_in_parts}
-use Rattle.steady_top.proofs.planning.audit_line.Goals as goal
+use Rattle.steady_top.proofs.auditing.audit_line.Goals as goal
 
 pub returns : goal.returns
 returns c =

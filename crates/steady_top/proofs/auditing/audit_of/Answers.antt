@@ -2,7 +2,7 @@ use Rattle.std.proofs.Common.{rules, ◌≡◌, string_bytes}
 use Rattle.schedule_model.specs.Validity.{IsValid, completed}
 use Rattle.steady_top.specs.Audits.{audit_text}
 use Rattle.steady_top.proofs.Audited.{audit_found, breach_found, is_ok_err}
-use Rattle.steady_top.proofs.planning.audit_of.Goals as goal
+use Rattle.steady_top.proofs.auditing.audit_of.Goals as goal
 
 pub returns-in-Ok : goal.returns-in-Ok
 returns-in-Ok c =

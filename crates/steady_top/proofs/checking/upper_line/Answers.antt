@@ -2,7 +2,7 @@ use Rattle.std.proofs.Common.{rules, ◌≡◌, ◌++◌, [], codes, decimal, st
 use Rattle.std.specs.Fmt.{signed_decimal}
 use Rattle.text_lines.specs.Lines.{line}
 use Rattle.steady_top.proofs.Works.{line_in_parts}
-use Rattle.steady_top.proofs.planning.upper_line.Goals as goal
+use Rattle.steady_top.proofs.checking.upper_line.Goals as goal
 
 pub returns : goal.returns
 returns c =

@@ -3,7 +3,7 @@ use Rattle.steady_top.specs.Faults.{refusal_of}
 use Rattle.command_words.specs.Words.{audit}
 use Rattle.steady_top.specs.Answers.{IsMade, IsCauseFor}
 use Rattle.steady_top.proofs.Works.{platform_fault, of_error, audited_is_made, unaudited_is_cause, both_ways}
-use Rattle.steady_top.proofs.planning.audit.Goals as goal
+use Rattle.steady_top.proofs.auditing.audit.Goals as goal
 
 pub returns-in_err-timed : goal.returns-in_err-timed
 returns-in_err-timed g c =
