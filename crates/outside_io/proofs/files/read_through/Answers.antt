@@ -36,3 +36,6 @@ loop-bytes-preserved g c = record {
 
 pub returns : goal.returns
 returns g c = search rules
+
+pub returns-in-Err : goal.returns-in-Err
+returns-in-Err g c = search rules

@@ -17,3 +17,12 @@ unreachable-requires c = first_of (search rules, grind (arith, common_steps))
 
 pub returns-clause-count : goal.returns-clause-count
 returns-clause-count c = first_of (search rules, grind (arith, common_steps))
+
+pub returns-then-contains-clause-call : goal.returns-then-contains-clause-call
+returns-then-contains-clause-call c = first_of (search rules, grind (arith, common_steps))
+
+pub returns-then-contains-clause-fault : goal.returns-then-contains-clause-fault
+returns-then-contains-clause-fault c = first_of (search rules, grind (arith, common_steps))
+
+pub returns-clause-room : goal.returns-clause-room
+returns-clause-room c = first_of (search rules, grind (arith, common_steps))
