@@ -11,7 +11,7 @@ pub struct Piece {
     pub count: u128,
 }
 
-/// A part of the period in which each sender serves one receiver.
+/// A part of the period, with what the lanes carry in it. In the tables that are planned each sender serves one receiver in it.
 #[derive(Drop)]
 pub struct Slot {
     /// How many ticks the slot lasts, at least 1.

@@ -1,6 +1,6 @@
 -- Platforms: a directed graph of nodes, some of which compute, and of links with costs.
 -- Source: the platform graphs of Beaumont, Legrand and Robert's papers on steady-state scheduling.
-use Rattle.std.specs.Prelude.{◌≡◌, not, ℕ, ◌<◌, ◌≤◌, ◌≢◌, Bool, true, ◌&&◌, ◌||◌, List, length, All, Option, nat_eq, nat_le, IfSome, bytes_eq}
+use Rattle.std.specs.Prelude.{◌≡◌, ℕ, ◌<◌, ◌≤◌, ◌≢◌, Bool, true, ◌&&◌, ◌||◌, List, length, All, Option, nat_eq, nat_le, IfSome, bytes_eq}
 use Rattle.std.specs.List.{IsDistinct, list_all}
 use Rattle.ratio_core.specs.Fraction.{Fraction}
 use Rattle.ratio_core.specs.Texts.{HasSmallParts}
@@ -30,10 +30,6 @@ is_master p node = nat_eq node p.master
 -- the number of the master, as the node from which routes begin
 abbrev pub master_of : PlatformView → ℕ
 master_of p = p.master
-
--- a plan can use the link: what a link brings to the master is of no use
-abbrev pub is_used : PlatformView → LinkView → Bool
-is_used p link = not (is_master p link.to)
 
 -- an ASCII letter or digit, `_`, `-` or `.`
 abbrev pub is_name_byte : ℕ → Bool

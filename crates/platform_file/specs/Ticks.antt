@@ -1,4 +1,4 @@
--- Platforms whose times and costs are counted in ticks. Source: this project; the papers count in rational time.
+-- Platforms whose times and costs are counted in ticks. Source: this project; the literature counts in rational time.
 use Rattle.std.specs.Prelude.{◌≡◌, ⊤, ℕ, ◌*◌, ◌/◌, ◌%◌, ◌^◌, ◌<◌, ◌≤◌, nat_le, cond, List, [], ◌∷◌, ◌++◌, map, flat_map, All, Option, Result, Ok, Err, IfSome, option_map, option_to_list}
 use Rattle.ratio_core.specs.Multiples.{lcm_of}
 use Rattle.platform_file.specs.declared.fault.TimedFault.{TimedFault}

@@ -75,7 +75,7 @@ pub(crate) fn tables_at<'a>(
 ) -> Result<Option<Vec<&'a Table>>, AllocError>
     ensures { IfOk result
         (λ found. option_map (λ tables. map (λ table. table_view table.now) tables.items) found
-            ≡ option_and_then (items_of as_table) (get_member key.now (table_view table.now))) }
+        ≡ option_and_then (items_of as_table) (get_member key.now (table_view table.now))) }
 {
     match value_at(table, key).and_then(Value::as_array) {
         Some(values) => all_tables(alloc, values),
@@ -91,7 +91,7 @@ pub(crate) fn optional_tables<'a>(
 ) -> Result<Option<Vec<&'a Table>>, AllocError>
     ensures { IfOk result
         (λ found. option_map (λ tables. map (λ table. table_view table.now) tables.items) found
-            ≡ optional_items as_table (get_member key.now (table_view table.now))) }
+        ≡ optional_items as_table (get_member key.now (table_view table.now))) }
 {
     match value_at(table, key) {
         None => Ok(Some(Vec::new(alloc))),
@@ -110,7 +110,7 @@ pub(crate) fn optional_texts<'a>(
 ) -> Result<Option<Vec<&'a str>>, AllocError>
     ensures { IfOk result
         (λ found. option_map (λ texts. map (λ text. text.now) texts.items) found
-            ≡ optional_items as_str (get_member key.now (table_view table.now))) }
+        ≡ optional_items as_str (get_member key.now (table_view table.now))) }
 {
     match value_at(table, key) {
         None => Ok(Some(Vec::new(alloc))),

@@ -291,7 +291,7 @@ impl From<NoMemory> for PlatformFault {
 #[derive(Clone, Copy, Debug, PartialEq, Eq)]
 pub enum TimedFault {
     /// The least common multiple of the denominators exceeds 2^40: that of those before is `left`, and `right` is the first
-    /// denominator that makes it pass.
+    /// denominator that makes it exceed that.
     Unit { left: u128, right: u128 },
     /// Memory ran out.
     NoMemory,

@@ -313,7 +313,7 @@ fn read_over(
     requires targets { length sections.now.targets.items ≤ 8 }
     ensures value { MatchResult result
         (λ rest. platform_over nodes.now (sections_view sections.now)
-            ≡ Ok (record { nodes = nodes.now; links = rest.2; master = rest.0; targets = rest.1 }))
+        ≡ Ok (record { nodes = nodes.now; links = rest.2; master = rest.0; targets = rest.1 }))
         (λ fault. IsFaultOf fault (platform_over nodes.now (sections_view sections.now))) }
     ensures master { IfOk result (λ rest. rest.0 < length nodes.now) }
     ensures targets { IfOk result (λ rest. All (IsTarget nodes.now rest.0) rest.1) }

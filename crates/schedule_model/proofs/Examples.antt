@@ -1,5 +1,8 @@
 -- Schedules worked out by hand: for each rule one that breaks it by one tick or one number, and its neighbour that keeps all.
-use Rattle.std.proofs.Common.{◌≡◌, ℕ, false, List, [], ◌∷◌, Option, Some, None, refl, arith}
+use Rattle.std.proofs.Common.{◌≡◌, ◌&&◌, ℕ, zero, suc, ◌≤◌, true, false, List, [], ◌∷◌, Option, Some, None, All, refl, arith}
+use Rattle.std.proofs.lemmas.List.Sums.{count_by-le-length}
+use Rattle.std.proofs.Math.Dec.{eqb-zero-suc}
+use Rattle.std.specs.List.Sorted.{IsNonDecreasingBy}
 use Rattle.ratio_core.specs.Fraction.{whole}
 use Rattle.platform_file.specs.Platform.{NodeView, LinkView}
 use Rattle.platform_file.specs.Ticks.{TimedView}
@@ -7,7 +10,8 @@ use Rattle.schedule_model.specs.declared.schedule.Op.{Op}
 use Rattle.schedule_model.specs.declared.schedule.Op.TheVariants.{Send, Compute}
 use Rattle.schedule_model.specs.declared.schedule.Series.TheVariants.{Tasking, Scatter}
 use Rattle.schedule_model.specs.declared.schedule.Schedule.{Schedule}
-use Rattle.schedule_model.specs.Validity.{IsWellFormed, IsOnePort, IsSupplied, completed}
+use Rattle.schedule_model.specs.Operations.{start_of, end_of, sends_from, sends_to, computes_at, is_open}
+use Rattle.schedule_model.specs.Validity.{IsInRange, KeepsOwn, IsWellFormed, IsOnePort, IsSupplied, IsValid, completed}
 use Rattle.schedule_model.specs.Throughput.{IsUpperRate}
 use Rattle.schedule_model.proofs.Evaluator.{kept, all_kept}
 
@@ -180,3 +184,51 @@ not_well_formed h = let bad = h.whole_unit in absurd (omega (arith, bad))
 -- nothing in no time is no rate
 no_rate : (p : ℕ) → IsUpperRate halves Tasking p 0 → ⊥
 no_rate p h = let bad = h.some_time in absurd (omega (arith, bad))
+
+-- a master alone, a task of one tick, and the schedule of that tick
+abbrev quick : TimedView
+quick = record {
+  platform = record { nodes = node (Some 1) ∷ []; links = []; master = 0; targets = [] };
+  unit = 1;
+  times = Some 1 ∷ [];
+  costs = [];
+}
+
+abbrev one_tick : Schedule
+one_tick = schedule 1 (Compute 0 0 ∷ [])
+
+only : (P : Op → Type 0) (op : Op) → P op → All P (op ∷ [])
+only P op h zero d k = h
+only P op h (suc n) d k = absurd (omega (arith, k))
+
+one_in_order : (op : Op) → IsNonDecreasingBy start_of (op ∷ [])
+one_in_order op zero zero d h k = omega arith
+one_in_order op zero (suc j) d h k = absurd (omega (arith, k))
+one_in_order op (suc i) zero d h k = absurd (omega (arith, h))
+one_in_order op (suc i) (suc j) d h k = absurd (omega (arith, k))
+
+supplied_alone : IsSupplied quick Tasking one_tick
+supplied_alone zero tick h = let bad : true ≡ false = h in cc
+supplied_alone (suc n) tick h = rw (eqb-zero-suc n) (omega arith)
+
+one_tick_valid : IsValid quick Tasking one_tick
+one_tick_valid = record {
+  well_formed = record {
+    some_unit = omega arith;
+    whole_unit = refl;
+    in_order = one_in_order (Compute 0 0);
+    in_range = only (IsInRange quick Tasking) (Compute 0 0) refl;
+    in_time = only (λ op. end_of quick 1 op ≤ 1) (Compute 0 0) (omega arith);
+    own_kept = only (KeepsOwn quick Tasking) (Compute 0 0) tt;
+  };
+  one_port = record {
+    sends = λ node tick. count_by-le-length (λ op. sends_from quick node op && is_open quick 1 tick op) one_tick.ops;
+    receives = λ node tick. count_by-le-length (λ op. sends_to quick node op && is_open quick 1 tick op) one_tick.ops;
+    computes = λ node tick. count_by-le-length (λ op. computes_at node op && is_open quick 1 tick op) one_tick.ops;
+  };
+  supplied = supplied_alone;
+}
+
+-- so one task in two ticks is no upper rate: 2 is one more than 1
+upper_too_low : IsUpperRate quick Tasking 1 2 → ⊥
+upper_too_low h = let bad : 2 ≤ 1 = h.bounds one_tick one_tick_valid in absurd (omega (arith, bad))

@@ -169,7 +169,7 @@ impl Tally {
         requires few_computed { self.old.computed < 2 ^ 64 - 1 }
         ensures { MatchResult result
             (λ done. (broken_rule timed.now series ticks_per_unit last self.old op ≡ None)
-                × (self.new ≡ noted timed.now ticks_per_unit self.old op))
+            × (self.new ≡ noted timed.now ticks_per_unit self.old op))
             (λ rule. broken_rule timed.now series ticks_per_unit last self.old op ≡ Some rule) }
     {
         if start_of(op) < self.last {

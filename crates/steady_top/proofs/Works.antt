@@ -1,5 +1,5 @@
 -- What the work of each command comes to, from what was read of its files.
-use Rattle.std.proofs.Common.{◌≡◌, ◌∙◌, ℕ, suc, ◌+◌, ◌*◌, nat_abs, option_and_then, ◌<◌, ◌≤◌, nat_lt, true, false, cond, List, [], ◌∷◌, ◌++◌, length, replicate, Option, Some, None, Result, Ok, Err, MatchResult, refl, sym, ap, subst, arith, inl, inr}
+use Rattle.std.proofs.Common.{◌≡◌, ◌∙◌, ℕ, suc, ◌+◌, option_and_then, ◌<◌, ◌≤◌, nat_lt, true, false, cond, List, [], ◌∷◌, ◌++◌, length, replicate, Option, Some, None, Result, Ok, Err, MatchResult, refl, sym, ap, subst, arith, inl, inr}
 use Rattle.std.proofs.lemmas.Bool.{lt-ltb, le-ltb}
 use Rattle.std.proofs.lemmas.List.{length-replicate, append_assoc}
 use Rattle.std.specs.Result.{IsErr, IsErrAnd}
@@ -18,14 +18,10 @@ use Rattle.platform_file.specs.Ticks.{TimedView, IsTimed, timed_of, IsTimedFault
 use Rattle.linear_program.specs.Certificates.{CertificateView}
 use Rattle.planner.specs.declared.fault.PlanFault.{PlanFault}
 use Rattle.planner.specs.declared.fault.PlanFault.TheVariants as plans
-use Rattle.planner.specs.declared.planned.Plan.{Plan}
-use Rattle.planner.specs.Prices.{prices_of, IsBestCertificate}
-use Rattle.planner.specs.Plans.{fault_of_scale, fault_of_answer, fault_of, IsPlan}
-use Rattle.period_table.specs.Best.{IsBest}
-use Rattle.plan_text.specs.Texts.{plan_text}
+use Rattle.planner.specs.Prices.{prices_of}
+use Rattle.planner.specs.Plans.{fault_of_scale, fault_of_answer, fault_of}
 use Rattle.schedule_model.specs.declared.schedule.Series.{Series}
 use Rattle.schedule_model.specs.declared.schedule.Series.TheVariants.{Tasking}
-use Rattle.schedule_model.specs.Throughput.{IsUpperRate}
 use Rattle.tasking_program.specs.Programme.{tasking_programme}
 use Rattle.dual_checker.specs.declared.verdict.Verdict.{Verdict}
 use Rattle.dual_checker.specs.declared.verdict.Verdict.TheVariants.{Proves, Negative, Column, Value, Overflow}
@@ -33,10 +29,9 @@ use Rattle.dual_checker.specs.declared.reading.CertificateFault.{CertificateFaul
 use Rattle.dual_checker.specs.declared.reading.CertificateFault.TheVariants as text
 use Rattle.dual_checker.specs.Reading.{certificate_of}
 use Rattle.dual_checker.specs.Verdicts.{verdict_of}
-use Rattle.dual_checker.specs.Texts.{certificate_text}
-use Rattle.steady_top.specs.Refusals.{Reason, no_platform, no_plan, long_certificate, long_plan, Refusal, usage, refused, cannot_read, no_memory, platform_refusal, timed_refusal, plan_refusal}
+use Rattle.steady_top.specs.Refusals.{Reason, no_platform, long_certificate, long_plan, Refusal, usage, refused, cannot_read, no_memory, platform_refusal, timed_refusal, plan_refusal}
 use Rattle.command_words.specs.Words.{Command, plan, prices, check, audit}
-use Rattle.steady_top.specs.Audits.{IsReason, IsAudit}
+use Rattle.steady_top.specs.Audits.{IsReason}
 use Rattle.steady_top.specs.Outcomes.{first_name, second_name, files_of, files_for, Outcome, prints, plans as plans_of, audits, refuses, IsRefusal, with_timed, with_platform, with_file, planned, priced, plan_of, certificate_for, judged, judged_reading, check_of_file, most_plan_bytes, audit_of_file, work_of}
 use Rattle.steady_top.specs.Answers.{MayBe, ComesTo, AreOpened, IsMade, IsRefusedFor, IsCauseFor}
 use Rattle.steady_top.specs.Planned.{IsUnread, IsPlatformRead, IsPlatformFault, IsSecondRead, IsSecondFault, MayRefuse, IsBestPlan, IsBestPrices, IsProved, check_of_bytes, IsChecked, IsAuditFault, IsAudited}

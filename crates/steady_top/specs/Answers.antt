@@ -1,5 +1,5 @@
 -- What an answer of the program says of the words, the files and the sink (this project).
-use Rattle.std.specs.Prelude.{◌≡◌, ℕ, ◌*◌, ◌≤◌, nat_abs, List, length, map, Option, Some, None, Ok, ◌⊎◌, String, string_bytes}
+use Rattle.std.specs.Prelude.{◌≡◌, ℕ, ◌*◌, nat_abs, List, length, map, Option, Some, None, Ok, ◌⊎◌, String, string_bytes}
 use Rattle.std.specs.declared.alloc.Global.{Global}
 use Rattle.outside_io.specs.Files.{Told, untold, absent, contents, FilesView, HasCause}
 use Rattle.outside_io.specs.Faults.{Rose, raised}

@@ -12,7 +12,7 @@ pub enum Status {
     Usage,
     /// The platform file is refused.
     Platform,
-    /// A number of ticks or of a pivot exceeded its bound.
+    /// The ticks of a time unit, a cell of a pivot, a plan's period or a sum of a check exceed their bound.
     Overflow,
     /// The pivot limit is spent.
     Spent,
@@ -22,9 +22,9 @@ pub enum Status {
     WriteFault,
     /// Memory ran out.
     NoMemory,
-    /// A file or a run is too long.
+    /// A certificate, a plan or its schedule is too long.
     TooLong,
-    /// A certificate, plan, schedule or history is refused.
+    /// A certificate, a plan or its schedule is refused.
     Refused,
 }
 

@@ -1,7 +1,7 @@
 use Rattle.std.proofs.Common.{◌≡◌, [], drop, vec_items, refl}
 use Rattle.std.specs.Vec.Iter.{into_iter_items}
 use Rattle.std.specs.IoError.{error_kind}
-use Rattle.std.specs.declared.io.ErrorKind.ErrorKind.TheVariants as kind
+use Rattle.std.specs.declared.io.ErrorKind.TheVariants as kind
 use Rattle.steady_top.specs.declared.fault.TopFault.TheVariants as top
 use Rattle.steady_top.specs.Refusals.{usage, no_memory}
 use Rattle.steady_top.specs.Answers.{call_of}

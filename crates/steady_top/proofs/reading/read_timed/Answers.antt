@@ -1,4 +1,3 @@
-use Rattle.platform_file.specs.Reading.{most_bytes}
 use Rattle.steady_top.specs.Faults.{refusal_of}
 use Rattle.steady_top.proofs.Works.{read_may_be, unread_is_platform, read_is_next, fault_is_platform, of_error}
 use Rattle.steady_top.proofs.reading.read_timed.Goals as goal
