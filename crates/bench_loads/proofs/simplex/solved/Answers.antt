@@ -8,9 +8,9 @@ solve-requires c = record {
   programme = c.args.lp.now;
   lp = c.known.ensures;
   bounded = c.requires;
-  start = c.in_ok-table.ensures;
+  start = c.in_ok-tableau.ensures;
 }
 
 pub returns : goal.returns
 returns c no_want =
-    ap (λ t. answer_of c.args.limit (bland_run c.args.limit t)) (sym c.in_ok-table.ensures) ∙ c.solve.ensures.exact no_want
+    ap (λ t. answer_of c.args.limit (bland_run c.args.limit t)) (sym c.in_ok-tableau.ensures) ∙ c.solve.ensures.exact no_want
