@@ -158,7 +158,7 @@ fn route_in(
 ) -> Result<Option<Route>, NoMemory>
     ensures { IfOk result
         (λ found. MatchOption found ((route : Route) → IsRouteLine timed.now series number text.now route → ⊥)
-            (λ route. IsRouteLine timed.now series number text.now route)) }
+        (λ route. IsRouteLine timed.now series number text.now route)) }
 {
     let words = words_of(alloc, text)?;
     route_of_words(alloc, timed, series, number, words.as_slice())
@@ -181,7 +181,7 @@ fn piece_in(word: &[u8]) -> Option<Piece>
 fn pieces_in(alloc: Global, words: &[&[u8]]) -> Result<Option<Listed<Piece>>, NoMemory>
     ensures { IfOk result
         (λ found. MatchOption found ((pieces : List Piece) → ArePieceWords (map (λ word. word.now) words.now) pieces → ⊥)
-            (λ pieces. ArePieceWords (map (λ word. word.now) words.now) pieces)) }
+        (λ pieces. ArePieceWords (map (λ word. word.now) words.now) pieces)) }
 {
     let mut pieces = Listed::new(alloc);
     for word in words {
@@ -231,7 +231,7 @@ fn slot_in(
     requires { lanes ≡ length (lanes_of routes.now) }
     ensures { IfOk result
         (λ found. MatchOption found ((slot : Slot) → IsSlotLine (lanes_of routes.now) text.now slot → ⊥)
-            (λ slot. IsSlotLine (lanes_of routes.now) text.now slot)) }
+        (λ slot. IsSlotLine (lanes_of routes.now) text.now slot)) }
 {
     let words = words_of(alloc, text)?;
     slot_of_words(alloc, lanes, routes, words.as_slice())
@@ -247,7 +247,7 @@ fn route_after<'a>(
 ) -> Result<Option<(Route, &'a [u8])>, NoMemory>
     ensures { IfOk result
         (λ found. MatchOption found (HasNoNext (IsRouteLine timed.now series number) bytes.now)
-            (λ next. IsNext (IsRouteLine timed.now series number) bytes.now next.0 next.1.now)) }
+        (λ next. IsNext (IsRouteLine timed.now series number) bytes.now next.0 next.1.now)) }
 {
     let Some((text, rest)) = first_line(bytes) else {
         return Ok(None);
@@ -268,7 +268,7 @@ fn slot_after<'a>(
     requires { lanes ≡ length (lanes_of routes.now) }
     ensures { IfOk result
         (λ found. MatchOption found (HasNoNext (IsSlotLine (lanes_of routes.now)) bytes.now)
-            (λ next. IsNext (IsSlotLine (lanes_of routes.now)) bytes.now next.0 next.1.now)) }
+        (λ next. IsNext (IsSlotLine (lanes_of routes.now)) bytes.now next.0 next.1.now)) }
 {
     let Some((text, rest)) = first_line(bytes) else {
         return Ok(None);
@@ -315,7 +315,7 @@ pub(crate) fn read_slots<'a>(
 ) -> Result<(Listed<Slot>, &'a [u8]), NoMemory>
     ensures read { IfOk result
         (λ found. AreRead (length found.0) timed.now (at_row head.now routes.now []) bytes.now
-            (at_row head.now routes.now found.0) found.1.now) }
+        (at_row head.now routes.now found.0) found.1.now) }
     ensures few { IfOk result (λ found. length found.0 < 2 ^ 32) }
     ensures all { IfOk result (λ found. suc (length found.0) < 2 ^ 32 → HasNoNext (IsSlotLine (lanes_of routes.now)) found.1.now) }
 {

@@ -73,7 +73,7 @@ pub(crate) fn walk_over(
 ) -> Result<Option<(Listed<u32>, u32)>, NoMemory>
     ensures { IfOk result
         (λ found. MatchOption found ((links : List ℕ) (end : ℕ) → IsNamedWalk timed.now start (map (λ name. name.now) names.now) links end → ⊥)
-            (λ walk. IsNamedWalk timed.now start (map (λ name. name.now) names.now) walk.0 walk.1)) }
+        (λ walk. IsNamedWalk timed.now start (map (λ name. name.now) names.now) walk.0 walk.1)) }
 {
     timed.known();
     let mut links = Listed::new(alloc);
