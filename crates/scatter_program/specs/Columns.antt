@@ -1,5 +1,5 @@
 -- What the columns of the programme of a scatter stand for.
-use Rattle.std.specs.Prelude.{◌<◌, ℕ, zero, suc, Unit, Bool, not, ◌&&◌, nat_eq, List, [], ◌∷◌, ◌++◌, length, slice_index, slice_index_or}
+use Rattle.std.specs.Prelude.{◌<◌, ℕ, zero, suc, Bool, not, ◌&&◌, nat_eq, List, [], ◌∷◌, ◌++◌, length, slice_index, slice_index_or}
 use Rattle.platform_file.specs.Platform.{is_master}
 use Rattle.platform_file.specs.Ticks.{TimedView}
 use Rattle.schedule_model.specs.Operations.{sender_of, receiver_of}

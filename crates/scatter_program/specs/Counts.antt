@@ -12,7 +12,7 @@ use Rattle.scatter_program.specs.Columns.{columns_of, column_at}
 
 -- the operation moves a message of the kind over the link
 abbrev pub moves_over : ℕ → ℕ → Op → Bool
-moves_over link kind (Send over own start) = nat_eq over link && nat_eq own kind
+moves_over link kind (Send over own start) = nat_eq own kind && nat_eq over link
 moves_over link kind (Compute node start) = false
 
 -- how many messages of a schedule a column stands for: those that every target gets, or those of a kind over a link

@@ -1,6 +1,6 @@
 -- The rows of the programme of a scatter: how long each port is used in a tick, and what a node gets and passes on of each kind.
 -- Source: the steady-state equations of Beaumont, Legrand and Robert.
-use Rattle.std.specs.Prelude.{◌<◌, ℕ, zero, suc, Unit, Bool, true, not, ℤ, pos, ◌-ℤ◌, nat_eq, List, [], ◌++◌, length}
+use Rattle.std.specs.Prelude.{◌<◌, ℕ, zero, suc, Bool, true, not, ℤ, pos, ◌-ℤ◌, nat_eq, List, [], ◌++◌, length}
 use Rattle.platform_file.specs.Platform.{is_master}
 use Rattle.platform_file.specs.Ticks.{TimedView}
 use Rattle.linear_program.specs.Programmes.{RowView}
