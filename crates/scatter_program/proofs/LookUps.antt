@@ -23,8 +23,8 @@ earlier : (i n : ℕ) → i < n → nat_eq n i ≡ false
 earlier i n l = grind (arith, nat_tests)
 
 -- a later link, or a later kind, tells flows apart
-later_link : (i n : ℕ) {b : Bool} → i < n → (nat_eq n i && b) ≡ false
-later_link i n l = rw (earlier i n l) refl
+later_link : (i n : ℕ) (b : Bool) → i < n → (nat_eq n i && b) ≡ false
+later_link i n b l = rw (earlier i n l) refl
 
 later_kind : (a : Bool) (i n : ℕ) → i < n → (a && nat_eq n i) ≡ false
 later_kind true i n l = earlier i n l
@@ -34,7 +34,7 @@ flows_differ : (t : TimedView) (n : ℕ) → AreDifferent same_column Rate (flow
 flows_differ t zero = λ i j below l. absurd (omega arith)
 flows_differ t (suc n) =
     different_append same_column Rate (flows_below t n) (flows_of t n) (flows_differ t n)
-    (different_each same_column Rate (carries t n) (λ link. Flows link n) (λ i m l. later_link i m l) (length t.platform.links))
+    (different_each same_column Rate (carries t n) (λ link. Flows link n) (λ i m l. later_link i m _ l) (length t.platform.links))
     (each_all (λ y. All (λ x. same_column y x ≡ false) (flows_below t n)) (carries t n) (λ link. Flows link n) (length t.platform.links)
     (λ link l e. flows_all (λ x. same_column (Flows link n) x ≡ false) t n (λ other kind m k f. later_kind (nat_eq link other) kind n k)))
 

@@ -103,7 +103,9 @@ least_delivered t s first (target ∷ (next ∷ targets)) (suc k) l =
 module _ (t : TimedView) (s : Schedule) (valid : IsValid t Scatter s) (kind : ℕ) (exists : kind < length t.platform.targets) where
   -- every target gets what the schedule completes
   pub delivered : completed t Scatter s ≤ got_by t kind (target_of t kind) s.ops
-  delivered = least_delivered t s 0 t.platform.targets kind exists
+  delivered =
+      let own : 0 + kind ≡ kind = omega arith in
+      subst (λ k. least (deliveries_from t s 0 t.platform.targets) ≤ got_by t k (target_of t kind) s.ops) own (least_delivered t s 0 t.platform.targets kind exists)
 
   -- a target sends nothing of its own kind
   pub none_sent : sent_by t kind (target_of t kind) s.ops ≡ 0

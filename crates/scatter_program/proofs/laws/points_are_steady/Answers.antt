@@ -2,7 +2,7 @@ use Rattle.scatter_program.proofs.SteadyPoints.{steady, gain}
 use Rattle.scatter_program.proofs.laws.points_are_steady.Goals as goal
 
 pub returns-clause-steady : goal.returns-clause-steady
-returns-clause-steady c = λ t amount ticks feasible. steady t amount ticks feasible
+returns-clause-steady c = steady
 
 pub returns-clause-gain : goal.returns-clause-gain
-returns-clause-gain c = λ t amount. gain t amount 0
+returns-clause-gain c = gain
