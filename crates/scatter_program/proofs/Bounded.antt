@@ -8,7 +8,7 @@ use Rattle.linear_program.specs.Sums.{sum_below}
 use Rattle.linear_program.specs.Programmes.{RowView, cell_at, gain_at}
 use Rattle.linear_program.specs.Duality.{priced_column, IsBounded}
 use Rattle.linear_program.proofs.Sums.{zero_sum, single_sum, sum_added}
-use Rattle.platform_file.specs.Platform.{is_master}
+use Rattle.platform_file.specs.Platform.{IsTarget}
 use Rattle.platform_file.specs.Ticks.{TimedView, IsTimed}
 use Rattle.schedule_model.specs.Operations.{cost_of, sender_of, receiver_of}
 use Rattle.programme_rows.specs.Cells.{where_true}
@@ -78,6 +78,7 @@ module _ (t : TimedView) (timed : IsTimed t) where
       ∙ cell j l Rate e (Supply kind) (target_of t kind)
       ∙ rw (ne_eqb (target_of t kind) t.platform.master target.no_master, eq-eqb (target_of t kind) (target_of t kind) refl) refl
     where
+      target : IsTarget t.platform.nodes t.platform.master (target_of t kind)
       target = timed.platform.targets kind 0 k
 
   -- a column costs what it gains, and more
@@ -109,7 +110,10 @@ module _ (t : TimedView) (timed : IsTimed t) where
       others : (other : ℕ) → other ≢ kind → sum_below (length t.platform.nodes) (term (Supply other) j) ≡ pos 0
       others other apart =
           zero_sum (length t.platform.nodes) (term (Supply other) j)
-          (λ i m. cell j l (Flows link kind) e (Supply other) i ∙ free (is_limited t (Supply other) i) _ (ap (λ b. where_true b _) (ne_eqb kind other (λ f. apart (sym f)))))
+          (λ i m. cell j l (Flows link kind) e (Supply other) i ∙ free (is_limited t (Supply other) i) _ (none (nat_eq kind other) _ (ne_eqb kind other (λ f. apart (sym f)))))
+        where
+          none : (b : Bool) (z : ℤ) → b ≡ false → where_true b z ≡ pos 0
+          none b z f = rw f refl
 
       -- the ticks of a receive pay for the message that comes
       paid : (limited same from to : Bool) (c : ℕ) → 1 ≤ c → pos 0 ≤ℤ (where_true to (pos c) +ℤ where_true limited (where_true same (where_true from (pos 1) -ℤ where_true to (pos 1))))
