@@ -1,5 +1,5 @@
 -- Prices that cover the programme: one for every row.
-use Rattle.std.proofs.Common.{◌≡◌, ◌≢◌, ℕ, zero, suc, ◌<◌, ◌≤◌, Bool, true, false, not, nat_eq, List, [], ◌∷◌, ◌++◌, length, map, All, ℤ, pos, ◌+ℤ◌, ◌-ℤ◌, ◌*ℤ◌, ◌≤ℤ◌, refl, sym, ap, ◌∙◌, arith}
+use Rattle.std.proofs.Common.{◌≡◌, ◌≢◌, ℕ, zero, suc, ◌<◌, ◌≤◌, Bool, true, false, nat_eq, List, [], ◌∷◌, ◌++◌, length, All, ℤ, pos, ◌+ℤ◌, ◌-ℤ◌, ◌*ℤ◌, ◌≤ℤ◌, refl, sym, ap, ◌∙◌, arith}
 use Rattle.std.proofs.lemmas.Int.{ints}
 use Rattle.std.proofs.lemmas.Bool.{eq-eqb, ne_eqb}
 use Rattle.std.proofs.lemmas.List.{length-map, get_or-map}
@@ -12,7 +12,7 @@ use Rattle.platform_file.specs.Platform.{IsTarget}
 use Rattle.platform_file.specs.Ticks.{TimedView, IsTimed}
 use Rattle.schedule_model.specs.Operations.{cost_of, sender_of, receiver_of}
 use Rattle.programme_rows.specs.Cells.{where_true}
-use Rattle.programme_rows.proofs.Listings.{sum_over, sum_over_append, sum_over_each}
+use Rattle.programme_rows.proofs.Listings.{sum_over_append, sum_over_each}
 use Rattle.programme_rows.proofs.Cells.{cell_there}
 use Rattle.programme_rows.proofs.Prices.{ones}
 use Rattle.programme_rows.proofs.EvenPrices.{priced_ones}

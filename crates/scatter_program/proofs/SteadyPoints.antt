@@ -1,5 +1,5 @@
 -- A feasible point keeps every port in time, and every supply of each kind.
-use Rattle.std.proofs.Common.{◌≡◌, ◌≢◌, ℕ, zero, suc, ◌+◌, ◌*◌, ◌<◌, ◌≤◌, Bool, true, false, not, ◌&&◌, cond, nat_eq, ◌++◌, length, All, ℤ, pos, ◌+ℤ◌, ◌-ℤ◌, ◌*ℤ◌, ◌≤ℤ◌, refl, sym, ap, ◌∙◌, subst, arith, inl, inr}
+use Rattle.std.proofs.Common.{◌≡◌, ℕ, zero, suc, ◌+◌, ◌*◌, ◌<◌, ◌≤◌, Bool, true, false, not, ◌&&◌, cond, nat_eq, ◌++◌, length, All, ℤ, pos, ◌+ℤ◌, ◌-ℤ◌, ◌*ℤ◌, ◌≤ℤ◌, refl, ap, ◌∙◌, subst, arith, inl, inr}
 use Rattle.std.proofs.Math.IntN.{zero-*ℤ}
 use Rattle.std.proofs.lemmas.Int.{ints}
 use Rattle.std.proofs.lemmas.Bool.{cases_lt, eq-eqb, ne_eqb}
@@ -97,8 +97,8 @@ module _ (t : TimedView) (amount : Column → ℕ) where
     senders node l =
         within _ _ (amount Rate) _ (value_of_row SendPort node)
         (sum_pos (length t.platform.targets) _ (λ kind. over_links t kind (λ link. nat_eq (sender_of t link) node) (λ link. cost_of t link * amount (Flows link kind))) (λ kind.
-            sum_pos (length t.platform.links) _ (λ link. cond (carries t kind link && nat_eq (sender_of t link) node) (cost_of t link * amount (Flows link kind)) 0)
-            (λ link. one_use (carries t kind link) (nat_eq (sender_of t link) node) (cost_of t link) (amount (Flows link kind)))))
+        sum_pos (length t.platform.links) _ (λ link. cond (carries t kind link && nat_eq (sender_of t link) node) (cost_of t link * amount (Flows link kind)) 0)
+        (λ link. one_use (carries t kind link) (nat_eq (sender_of t link) node) (cost_of t link) (amount (Flows link kind)))))
         (kept SendPort send_rows node l refl)
 
     pub receivers : (node : ℕ) → node < length t.platform.nodes →
@@ -106,8 +106,8 @@ module _ (t : TimedView) (amount : Column → ℕ) where
     receivers node l =
         within _ _ (amount Rate) _ (value_of_row ReceivePort node)
         (sum_pos (length t.platform.targets) _ (λ kind. over_links t kind (λ link. nat_eq (receiver_of t link) node) (λ link. cost_of t link * amount (Flows link kind))) (λ kind.
-            sum_pos (length t.platform.links) _ (λ link. cond (carries t kind link && nat_eq (receiver_of t link) node) (cost_of t link * amount (Flows link kind)) 0)
-            (λ link. one_use (carries t kind link) (nat_eq (receiver_of t link) node) (cost_of t link) (amount (Flows link kind)))))
+        sum_pos (length t.platform.links) _ (λ link. cond (carries t kind link && nat_eq (receiver_of t link) node) (cost_of t link * amount (Flows link kind)) 0)
+        (λ link. one_use (carries t kind link) (nat_eq (receiver_of t link) node) (cost_of t link) (amount (Flows link kind)))))
         (kept ReceivePort (front Kept (rows_of t ReceivePort) (supplies_below t (length t.platform.targets)) later_rows) node l refl)
 
     -- in a kind's supply row other kinds don't count

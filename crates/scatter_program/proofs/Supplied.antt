@@ -1,5 +1,5 @@
 -- What a node begins to send of a kind, and what it gets, in a schedule that a platform can carry out.
-use Rattle.std.proofs.Common.{◌≡◌, ◌≢◌, ℕ, zero, suc, ◌+◌, ◌<◌, ◌≤◌, Bool, true, false, not, ◌&&◌, cond, min, nat_eq, List, [], ◌∷◌, length, get_or, slice_index, All, count_by, Some, IfSome, slice_get, ℤ, pos, ◌+ℤ◌, ◌-ℤ◌, ◌≤ℤ◌, refl, sym, ap, ◌∙◌, subst, arith}
+use Rattle.std.proofs.Common.{◌≡◌, ℕ, zero, suc, ◌+◌, ◌<◌, ◌≤◌, Bool, true, false, not, ◌&&◌, cond, min, nat_eq, List, [], ◌∷◌, length, get_or, slice_index, All, count_by, pos, ◌+ℤ◌, ◌-ℤ◌, ◌≤ℤ◌, refl, subst, arith}
 use Rattle.std.proofs.lemmas.Int.{ints}
 use Rattle.std.proofs.lemmas.Bool.{eqb-true, ne_eqb, le-leb}
 use Rattle.std.proofs.lemmas.Option.{slice_get-get_or}
@@ -18,7 +18,7 @@ use Rattle.schedule_model.proofs.Stocks.{count_fewer}
 use Rattle.programme_rows.specs.Cells.{where_true}
 use Rattle.programme_rows.proofs.Listings.{sum_over}
 use Rattle.scatter_program.specs.declared.rows.Limit.TheVariants.{Supply}
-use Rattle.scatter_program.specs.Columns.{target_of, carries}
+use Rattle.scatter_program.specs.Columns.{target_of}
 use Rattle.scatter_program.specs.Rows.{cell_of}
 use Rattle.scatter_program.proofs.Weights.{weight}
 

@@ -1,5 +1,5 @@
 -- What the counts of a schedule weigh in a row, operation by operation.
-use Rattle.std.proofs.Common.{◌≡◌, ◌≢◌, ℕ, ◌*◌, ◌/◌, ◌<◌, Bool, true, false, ◌&&◌, cond, nat_eq, List, length, get_or, All, count_by, ℤ, pos, ◌+ℤ◌, ◌*ℤ◌, refl, sym, ap, ◌∙◌}
+use Rattle.std.proofs.Common.{◌≡◌, ℕ, ◌*◌, ◌/◌, ◌<◌, Bool, true, false, ◌&&◌, cond, nat_eq, List, length, All, count_by, ℤ, pos, ◌+ℤ◌, ◌*ℤ◌, refl, sym, ap, ◌∙◌}
 use Rattle.std.proofs.Math.IntN.{*ℤ_comm}
 use Rattle.std.proofs.lemmas.Bool.{eq-eqb, ne_eqb}
 use Rattle.linear_program.specs.Sums.{sum_below}
@@ -65,8 +65,8 @@ module _ (t : TimedView) where
   flows_weigh f s range =
       sum_over_flows t (λ c. f c *ℤ pos (operations_in t s c)) (length t.platform.targets)
       ∙ same_sum (length t.platform.targets) _ (λ kind. sum_over (own_weight f kind) s.ops) (λ kind k.
-          same_sum (length t.platform.links) _ (λ i. where_true (carries t kind i) (f (Flows i kind)) *ℤ pos (count_by (moves_over i kind) s.ops)) (λ i l. where_times (carries t kind i) (f (Flows i kind)) (pos (count_by (moves_over i kind) s.ops)))
-          ∙ links_picked f kind s.ops range)
+      same_sum (length t.platform.links) _ (λ i. where_true (carries t kind i) (f (Flows i kind)) *ℤ pos (count_by (moves_over i kind) s.ops)) (λ i l. where_times (carries t kind i) (f (Flows i kind)) (pos (count_by (moves_over i kind) s.ops)))
+      ∙ links_picked f kind s.ops range)
       ∙ sum_exchange (length t.platform.targets) (own_weight f) s.ops
       ∙ kinds_picked f s.ops range
 

@@ -1,4 +1,4 @@
-use Rattle.std.proofs.Common.{rules, ◌≡◌, ◌≤◌, length, All, sym, subst, arith}
+use Rattle.std.proofs.Common.{rules, ◌≡◌, ◌≤◌, length, All, sym, subst}
 use Rattle.scatter_program.specs.Columns.{columns_of, Exists}
 use Rattle.scatter_program.proofs.Flows.{columns_exist, columns_few}
 use Rattle.scatter_program.proofs.columns.columns_of.Goals as goal
