@@ -12,7 +12,7 @@ use std::alloc::Global;
 pub enum Column {
     /// The messages that every target gets in a tick.
     Rate,
-    /// The messages that a link carries in a tick of one kind, which is the number of the target that wants them.
+    /// The messages of a kind that a link carries in a tick: the link, and the kind, which is its target's place among the targets.
     Flows(u32, u32),
 }
 

@@ -20,7 +20,7 @@ pub enum Limit {
     Send,
     /// Its receive port is open for one message at a time.
     Receive,
-    /// It sends no more messages of this kind than it receives and, where it wants them, needn't keep.
+    /// It sends no more messages of this kind than it receives, less those that it keeps as their target.
     Supply(u32),
 }
 
