@@ -8,5 +8,6 @@ mod optima;
 mod periods;
 mod programmes;
 mod ratios;
+mod rows;
 mod scripted;
 mod tableaux;

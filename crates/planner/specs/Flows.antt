@@ -5,10 +5,11 @@ use Rattle.platform_file.specs.Platform.{LinkView, master_of}
 use Rattle.platform_file.specs.Ticks.{TimedView}
 use Rattle.flow_routes.specs.declared.flow.Flow.{Flow}
 use Rattle.exact_simplex.specs.Optima.{first_terms}
+use Rattle.programme_rows.specs.LookUps.{value_of}
 use Rattle.tasking_program.specs.declared.columns.Column.{Column}
 use Rattle.tasking_program.specs.declared.columns.Column.TheVariants.{Computes, Flows}
 use Rattle.tasking_program.specs.Columns.{columns_of}
-use Rattle.tasking_program.specs.Points.{look_up}
+use Rattle.tasking_program.specs.Points.{same_column}
 
 -- how many tasks a rate comes to in so many ticks, of which its denominator is a divisor
 abbrev pub tasks_in : ℕ → Fraction → ℕ
@@ -16,7 +17,7 @@ tasks_in ticks value = value.num * (ticks / value.den)
 
 -- how many tasks a column comes to
 abbrev pub amount_in : TimedView → List Fraction → ℕ → Column → ℕ
-amount_in t values ticks column = tasks_in ticks (look_up column (columns_of t) values)
+amount_in t values ticks column = tasks_in ticks (value_of (same_column column) (columns_of t) values)
 
 -- the ends of a link
 abbrev pub ends_of : LinkView → ℕ × ℕ

@@ -2,10 +2,11 @@
 
 ghost use Rattle.std.specs.Prelude.{◌≡◌, ℕ, ◌^◌, ◌<◌, ◌≤◌, All, length, map, get_or, slice_index, IfOk};
 ghost use Rattle.exact_simplex.specs.Optima.{first_terms};
+ghost use Rattle.programme_rows.specs.LookUps.{value_of};
 ghost use Rattle.tasking_program.specs.Columns.{Exists, columns_of};
 ghost use Rattle.flow_routes.specs.Routes.{AreRoutes};
 ghost use Rattle.flow_routes.specs.Rounds.{AreChosen};
-ghost use Rattle.tasking_program.specs.Points.{look_up, IsSteady};
+ghost use Rattle.tasking_program.specs.Points.{same_column, IsSteady};
 ghost use Rattle.planner.specs.Flows.{tasks_in, amount_in, ends_of, flow_of};
 
 use flow_routes::{Flow, Route, routes};
@@ -33,8 +34,8 @@ fn amounts_in(timed: &Timed, columns: &[Column], values: &[Ratio], ticks: u128) 
     requires exist { All (Exists timed.now) columns.now }
     requires one_each { length values.now ≡ length columns.now }
     requires small { All (λ value. tasks_in ticks value < 2 ^ 128) values.now }
-    ensures rates { (node : ℕ) → node < 32 → get_or result.rates node 0 ≡ tasks_in ticks (look_up (Column.Computes node) columns.now values.now) }
-    ensures flows { (link : ℕ) → link < 128 → get_or result.flows link 0 ≡ tasks_in ticks (look_up (Column.Flows link) columns.now values.now) }
+    ensures rates { (node : ℕ) → node < 32 → get_or result.rates node 0 ≡ tasks_in ticks (value_of (same_column (Column.Computes node)) columns.now values.now) }
+    ensures flows { (link : ℕ) → link < 128 → get_or result.flows link 0 ≡ tasks_in ticks (value_of (same_column (Column.Flows link)) columns.now values.now) }
 {
     timed.known();
     let mut rates = [0; NODES];
