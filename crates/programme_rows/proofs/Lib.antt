@@ -4,5 +4,5 @@ pub mod Cells
 pub mod LookUps
 pub mod Weights
 pub mod Prices
-pub mod EvenPrices
 pub mod Exchanges
+pub mod EvenPrices

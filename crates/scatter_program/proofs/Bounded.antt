@@ -1,9 +1,8 @@
 -- Prices that cover the programme: one for every row.
-use Rattle.std.proofs.Common.{◌≡◌, ◌≢◌, ℕ, zero, suc, ◌<◌, ◌≤◌, Bool, true, false, nat_eq, List, [], ◌∷◌, ◌++◌, length, All, ℤ, pos, ◌+ℤ◌, ◌-ℤ◌, ◌*ℤ◌, ◌≤ℤ◌, refl, sym, ap, ◌∙◌, arith}
+use Rattle.std.proofs.Common.{◌≡◌, ◌≢◌, ℕ, zero, suc, ◌<◌, ◌≤◌, Bool, true, false, nat_eq, List, ◌++◌, length, ℤ, pos, ◌+ℤ◌, ◌-ℤ◌, ◌*ℤ◌, ◌≤ℤ◌, refl, sym, ap, ◌∙◌, arith}
 use Rattle.std.proofs.lemmas.Int.{ints}
 use Rattle.std.proofs.lemmas.Bool.{eq-eqb, ne_eqb}
 use Rattle.std.proofs.lemmas.List.{length-map, get_or-map}
-use Rattle.std.proofs.lemmas.List.Elements.{All-cons, All-nil}
 use Rattle.linear_program.specs.Sums.{sum_below}
 use Rattle.linear_program.specs.Programmes.{RowView, cell_at, gain_at}
 use Rattle.linear_program.specs.Duality.{priced_column, IsBounded}
@@ -14,7 +13,7 @@ use Rattle.schedule_model.specs.Operations.{cost_of, sender_of, receiver_of}
 use Rattle.programme_rows.specs.Cells.{where_true}
 use Rattle.programme_rows.proofs.Listings.{sum_over_append, sum_over_each}
 use Rattle.programme_rows.proofs.Cells.{cell_there}
-use Rattle.programme_rows.proofs.Prices.{ones}
+use Rattle.programme_rows.proofs.Prices.{ones, constant}
 use Rattle.programme_rows.proofs.EvenPrices.{priced_ones}
 use Rattle.scatter_program.specs.declared.columns.Column.{Column}
 use Rattle.scatter_program.specs.declared.columns.Column.TheVariants.{Rate, Flows}
@@ -138,15 +137,11 @@ module _ (t : TimedView) (timed : IsTimed t) where
     bound = record {
       some_scale = omega (arith, ints);
       one_each = length-map rows (λ _. pos 1);
-      not_negative = constant rows;
+      not_negative = constant (pos 1) (omega (arith, ints)) rows;
       covers = λ j l. rw (gained j l) (one_times _ _ (covered some j l (column_at (columns_of t) j) refl (columns_exist t j Rate l)));
     };
   }
     where
-      constant : (rows : List RowView) → All (λ price. pos 0 ≤ℤ price) (ones rows)
-      constant [] = All-nil (λ price. pos 0 ≤ℤ price)
-      constant (row ∷ rows) = All-cons (λ price. pos 0 ≤ℤ price) (pos 1) (ones rows) (omega (arith, ints)) (constant rows)
-
       gained : (j : ℕ) → j < length (columns_of t) → gain_at (scatter_programme t) j ≡ gain_of (column_at (columns_of t) j)
       gained j l = get_or-map gain_of (columns_of t) j Rate (pos 0) l
 

@@ -1,13 +1,12 @@
 -- The counts of a schedule are a feasible point.
-use Rattle.std.proofs.Common.{◌≡◌, ℕ, zero, suc, ◌*◌, ◌/◌, ◌<◌, ◌≤◌, Bool, true, false, not, cond, nat_eq, List, [], ◌∷◌, length, All, sum_by, ℤ, pos, ◌+ℤ◌, ◌*ℤ◌, ◌≤ℤ◌, refl, ap, ◌∙◌, subst, sym, arith}
+use Rattle.std.proofs.Common.{◌≡◌, ℕ, zero, suc, ◌/◌, ◌<◌, ◌≤◌, Bool, true, false, not, cond, nat_eq, length, All, ℤ, pos, ◌+ℤ◌, ◌*ℤ◌, ◌≤ℤ◌, refl, ap, ◌∙◌, subst, sym, arith}
 use Rattle.std.proofs.Math.IntN.{*ℤ-zero, zero-*ℤ}
 use Rattle.std.proofs.lemmas.Int.{ints}
 use Rattle.std.proofs.lemmas.Bool.{eqb-true}
-use Rattle.std.proofs.lemmas.List.Sums.{sum_by-cons}
 use Rattle.std.proofs.lemmas.List.Elements.{All-append, All-nil}
 use Rattle.linear_program.specs.Programmes.{RowView, row_value}
 use Rattle.linear_program.specs.Duality.{IsFeasible}
-use Rattle.linear_program.proofs.Integers.{times_keeps_order, times_sum}
+use Rattle.linear_program.proofs.Integers.{times_keeps_order}
 use Rattle.linear_program.proofs.Sums.{same_sum}
 use Rattle.platform_file.specs.Platform.{is_master}
 use Rattle.platform_file.specs.Ticks.{TimedView, IsTimed}
@@ -22,6 +21,7 @@ use Rattle.schedule_model.proofs.Ports.{sends_fit, receives_fit}
 use Rattle.programme_rows.specs.Cells.{where_true}
 use Rattle.programme_rows.proofs.Listings.{sum_over, each_all}
 use Rattle.programme_rows.proofs.Cells.{cell_there}
+use Rattle.programme_rows.proofs.Weights.{sums_bounded, one_use, no_use}
 use Rattle.scatter_program.specs.declared.rows.Limit.{Limit}
 use Rattle.scatter_program.specs.declared.rows.Limit.TheVariants.{Send as SendPort, Receive as ReceivePort, Supply}
 use Rattle.scatter_program.specs.declared.columns.Column.TheVariants.{Rate}
@@ -31,14 +31,6 @@ use Rattle.scatter_program.specs.Programme.{scatter_programme}
 use Rattle.scatter_program.specs.Counts.{counts_of}
 use Rattle.scatter_program.proofs.Weights.{weight, counts_weigh}
 use Rattle.scatter_program.proofs.Supplied.{sent_by, got_by, supply_weighs, delivered, none_sent, begun_at_end}
-
--- sums of lesser numbers, scaled
-sums_bounded : (k : ℕ) (f : Op → ℤ) (g : Op → ℕ) (ops : List Op) → ((op : Op) → (pos k *ℤ f op) ≤ℤ pos (g op)) → (pos k *ℤ sum_over f ops) ≤ℤ pos (sum_by g ops)
-sums_bounded k f g [] h = omega (arith, ints, *ℤ-zero (pos k))
-sums_bounded k f g (op ∷ ops) h =
-    let here = h op in
-    let rest = sums_bounded k f g ops h in
-    omega (arith, ints, here, rest, times_sum (pos k) (f op) (sum_over f ops), sum_by-cons g op ops)
 
 module _ (t : TimedView) (s : Schedule) (timed : IsTimed t) (valid : IsValid t Scatter s) where
   abbrev k : ℕ
@@ -54,16 +46,6 @@ module _ (t : TimedView) (s : Schedule) (timed : IsTimed t) (valid : IsValid t S
 
   abbrev IsKept : Limit → ℕ → Type 0
   IsKept limit node = row_value (length (columns_of t)) (row_of t limit node) (counts_of t s) ≤ℤ (side_of limit *ℤ pos s.length)
-
-  -- what an operation weighs in a port's row is what it lasts there
-  one_use : (a b : Bool) (c k : ℕ) → (pos k *ℤ where_true a (where_true b (pos c))) ≤ℤ pos (cond b (c * k) 0)
-  one_use true true c k = omega (arith, ints)
-  one_use true false c k = omega (arith, ints, *ℤ-zero (pos k))
-  one_use false true c k = omega (arith, ints, *ℤ-zero (pos k))
-  one_use false false c k = omega (arith, ints, *ℤ-zero (pos k))
-
-  no_use : (k : ℕ) → (pos k *ℤ pos 0) ≤ℤ pos 0
-  no_use k = omega (arith, ints, *ℤ-zero (pos k))
 
   -- the rate uses no port
   free_rate : (n : ℕ) (z : ℤ) → pos 0 *ℤ pos n +ℤ z ≡ z
@@ -83,7 +65,7 @@ module _ (t : TimedView) (s : Schedule) (timed : IsTimed t) (valid : IsValid t S
     where
       each : (op : Op) → (pos k *ℤ weight t (cell_of t SendPort node) op) ≤ℤ pos (cond (sends_from t node op) (duration_of t s.ticks_per_unit op) 0)
       each (Send link kind start) = one_use (carries t kind link) (nat_eq (sender_of t link) node) (cost_of t link) k
-      each (Compute at start) = no_use k
+      each (Compute at start) = no_use true k
 
   receive_ports_kept : (node : ℕ) → IsKept ReceivePort node
   receive_ports_kept node =
@@ -93,7 +75,7 @@ module _ (t : TimedView) (s : Schedule) (timed : IsTimed t) (valid : IsValid t S
     where
       each : (op : Op) → (pos k *ℤ weight t (cell_of t ReceivePort node) op) ≤ℤ pos (cond (sends_to t node op) (duration_of t s.ticks_per_unit op) 0)
       each (Send link kind start) = one_use (carries t kind link) (nat_eq (receiver_of t link) node) (cost_of t link) k
-      each (Compute at start) = no_use k
+      each (Compute at start) = no_use true k
 
   -- a node's supply of a kind: a target gets what is completed and sends none of it, and elsewhere no more is sent than is got
   supply_kept : (kind node : ℕ) → kind < length t.platform.targets → is_master t.platform node ≡ false → (b : Bool) → nat_eq node (target_of t kind) ≡ b →

@@ -1,26 +1,19 @@
 -- Each column of the programme stands for another rate or flow.
 use Rattle.std.proofs.Common.{◌≡◌, ℕ, zero, suc, ◌<◌, Bool, true, false, ◌&&◌, nat_eq, ◌∷◌, [], length, All, refl, sym, ◌∙◌, arith}
-use Rattle.std.proofs.lemmas.Bool.Decides.{nat_tests}
 use Rattle.std.proofs.lemmas.Bool.{eqb-true}
 use Rattle.std.proofs.lemmas.List.Elements.{All-cons, All-nil}
 use Rattle.platform_file.specs.Ticks.{TimedView}
 use Rattle.programme_rows.proofs.Listings.{each_all}
-use Rattle.programme_rows.proofs.LookUps.{AreDifferent, none_there, found, different_append, different_each}
+use Rattle.programme_rows.proofs.LookUps.{AreDifferent, itself, earlier, none_there, found, different_append, different_each}
 use Rattle.scatter_program.specs.declared.columns.Column.{Column}
 use Rattle.scatter_program.specs.declared.columns.Column.TheVariants.{Rate, Flows}
 use Rattle.scatter_program.specs.Columns.{carries, flows_of, flows_below, columns_of}
 use Rattle.scatter_program.specs.Points.{same_column, AreLookedUp}
 use Rattle.scatter_program.proofs.Flows.{flows_all}
 
-itself : (n : ℕ) → nat_eq n n ≡ true
-itself n = grind (arith, nat_tests)
-
 same_itself : (column : Column) → same_column column column ≡ true
 same_itself Rate = refl
 same_itself (Flows link kind) = rw (itself link) (itself kind)
-
-earlier : (i n : ℕ) → i < n → nat_eq n i ≡ false
-earlier i n l = grind (arith, nat_tests)
 
 -- a later link, or a later kind, tells flows apart
 later_link : (i n : ℕ) (b : Bool) → i < n → (nat_eq n i && b) ≡ false

@@ -1,5 +1,5 @@
 -- What the counts of a schedule gain, and why prices bound every rate.
-use Rattle.std.proofs.Common.{◌≡◌, ℕ, ◌*◌, ◌/◌, ◌≤◌, Bool, true, false, List, [], ◌∷◌, length, ℤ, pos, ◌+ℤ◌, ◌*ℤ◌, ◌≤ℤ◌, refl, ap, ◌∙◌, arith}
+use Rattle.std.proofs.Common.{◌≡◌, ℕ, ◌*◌, ◌/◌, ◌≤◌, List, [], ◌∷◌, length, ℤ, pos, ◌+ℤ◌, ◌*ℤ◌, ◌≤ℤ◌, refl, ap, ◌∙◌, arith}
 use Rattle.std.proofs.Math.IntN.{*ℤ_comm}
 use Rattle.std.proofs.Math.Nat.{mul_assoc, mul_comm, mul-mul-mul_comm, mul-le-mul_left}
 use Rattle.std.proofs.lemmas.Int.{ints}
@@ -17,8 +17,8 @@ use Rattle.schedule_model.specs.declared.schedule.Schedule.{Schedule}
 use Rattle.schedule_model.specs.Validity.{IsValid, completed}
 use Rattle.schedule_model.specs.Throughput.{IsUpperRate}
 use Rattle.schedule_model.proofs.Durations.{whole_quotient}
-use Rattle.programme_rows.specs.Cells.{where_true}
 use Rattle.programme_rows.proofs.Listings.{sum_over}
+use Rattle.programme_rows.proofs.Weights.{where_nothing}
 use Rattle.scatter_program.specs.declared.columns.Column.TheVariants.{Rate}
 use Rattle.scatter_program.specs.Columns.{carries, columns_of, column_at}
 use Rattle.scatter_program.specs.Programme.{gain_of, scatter_programme}
@@ -31,12 +31,8 @@ sends_gain : (t : TimedView) (ops : List Op) → sum_over (weight t gain_of) ops
 sends_gain t [] = refl
 sends_gain t (op ∷ ops) = let rest = sends_gain t ops in let here = one op in omega (arith, ints, rest, here)
   where
-    free : (b : Bool) → where_true b (pos 0) ≡ pos 0
-    free true = refl
-    free false = refl
-
     one : (op : Op) → weight t gain_of op ≡ pos 0
-    one (Send link kind start) = free (carries t kind link)
+    one (Send link kind start) = where_nothing (carries t kind link)
     one (Compute node start) = refl
 
 -- the counts gain what the schedule completes

@@ -16,6 +16,7 @@ use Rattle.programme_rows.specs.Cells.{where_true}
 use Rattle.programme_rows.proofs.Listings.{sum_by_index, front, back, each_of}
 use Rattle.programme_rows.proofs.Totals.{sum_pos, sum_difference}
 use Rattle.programme_rows.proofs.Cells.{cell_there}
+use Rattle.programme_rows.proofs.Weights.{one_rate, no_rate}
 use Rattle.scatter_program.specs.declared.columns.Column.{Column}
 use Rattle.scatter_program.specs.declared.columns.Column.TheVariants.{Rate, Flows}
 use Rattle.scatter_program.specs.declared.rows.Limit.{Limit}
@@ -50,12 +51,8 @@ module _ (t : TimedView) (amount : Column → ℕ) where
       same_sum (length (columns_of t)) _ (λ j. gain_of (column_at (columns_of t) j) *ℤ pos (amounts_of t amount j))
       (λ j l. ap (λ z. z *ℤ pos (amounts_of t amount j)) (get_or-map gain_of (columns_of t) j Rate (pos 0) l))
       ∙ by_columns gain_of
-      ∙ alone _ _ (zero_sum (length t.platform.targets) _ (λ kind k. zero_sum (length t.platform.links) _ (λ link l. no_gain (carries t kind link) (amount (Flows link kind)))))
+      ∙ alone _ _ (zero_sum (length t.platform.targets) _ (λ kind k. zero_sum (length t.platform.links) _ (λ link l. no_rate (carries t kind link) (amount (Flows link kind)))))
     where
-      no_gain : (a : Bool) (n : ℕ) → where_true a (pos 0 *ℤ pos n) ≡ pos 0
-      no_gain true n = zero-*ℤ (pos n)
-      no_gain false n = refl
-
       alone : (n : ℕ) (z : ℤ) → z ≡ pos 0 → pos 1 *ℤ pos n +ℤ z ≡ pos n
       alone n z e = omega (arith, ints, e)
 
@@ -81,13 +78,6 @@ module _ (t : TimedView) (amount : Column → ℕ) where
     later_rows : All Kept (rows_of t ReceivePort ++ supplies_below t (length t.platform.targets))
     later_rows = back Kept (rows_of t SendPort) (rows_of t ReceivePort ++ supplies_below t (length t.platform.targets)) feasible
 
-    -- ---- what each number comes to
-
-    one_use : (a b : Bool) (c n : ℕ) → where_true a (where_true b (pos c) *ℤ pos n) ≡ pos (cond (a && b) (c * n) 0)
-    one_use true true c n = omega (arith, ints)
-    one_use true false c n = zero-*ℤ (pos n)
-    one_use false b c n = refl
-
     -- a port's row
     within : (a z : ℤ) (r n : ℕ) → a ≡ pos 0 *ℤ pos r +ℤ z → z ≡ pos n → a ≤ℤ (pos 1 *ℤ pos ticks) → n ≤ ticks
     within a z r n e f h = omega (arith, ints, e, f, h, zero-*ℤ (pos r))
@@ -98,7 +88,7 @@ module _ (t : TimedView) (amount : Column → ℕ) where
         within _ _ (amount Rate) _ (value_of_row SendPort node)
         (sum_pos (length t.platform.targets) _ (λ kind. over_links t kind (λ link. nat_eq (sender_of t link) node) (λ link. cost_of t link * amount (Flows link kind))) (λ kind.
         sum_pos (length t.platform.links) _ (λ link. cond (carries t kind link && nat_eq (sender_of t link) node) (cost_of t link * amount (Flows link kind)) 0)
-        (λ link. one_use (carries t kind link) (nat_eq (sender_of t link) node) (cost_of t link) (amount (Flows link kind)))))
+        (λ link. one_rate (carries t kind link) (nat_eq (sender_of t link) node) (cost_of t link) (amount (Flows link kind)))))
         (kept SendPort send_rows node l refl)
 
     pub receivers : (node : ℕ) → node < length t.platform.nodes →
@@ -107,7 +97,7 @@ module _ (t : TimedView) (amount : Column → ℕ) where
         within _ _ (amount Rate) _ (value_of_row ReceivePort node)
         (sum_pos (length t.platform.targets) _ (λ kind. over_links t kind (λ link. nat_eq (receiver_of t link) node) (λ link. cost_of t link * amount (Flows link kind))) (λ kind.
         sum_pos (length t.platform.links) _ (λ link. cond (carries t kind link && nat_eq (receiver_of t link) node) (cost_of t link * amount (Flows link kind)) 0)
-        (λ link. one_use (carries t kind link) (nat_eq (receiver_of t link) node) (cost_of t link) (amount (Flows link kind)))))
+        (λ link. one_rate (carries t kind link) (nat_eq (receiver_of t link) node) (cost_of t link) (amount (Flows link kind)))))
         (kept ReceivePort (front Kept (rows_of t ReceivePort) (supplies_below t (length t.platform.targets)) later_rows) node l refl)
 
     -- in a kind's supply row other kinds don't count

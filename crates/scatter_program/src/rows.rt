@@ -103,11 +103,8 @@ fn cells_of(
 {
     let mut cells = Listed::new(alloc);
     for column in 0..columns.len() as u32 {
-        push_cell(
-            &mut cells,
-            column,
-            cell_of(timed, limit, node, columns[column as usize]),
-        )?;
+        let cell = cell_of(timed, limit, node, columns[column as usize]);
+        push_cell(&mut cells, column, cell)?;
     }
     Ok(cells)
 }
