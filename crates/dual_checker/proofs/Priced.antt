@@ -1,12 +1,12 @@
 -- What the sums of the check mean, and why it proves.
-use Rattle.std.proofs.Common.{◌≡◌, ℕ, zero, suc, ◌<◌, ◌≤◌, ◌^◌, Bool, true, false, ℤ, pos, ◌+ℤ◌, ◌*ℤ◌, ◌≤ℤ◌, ◌<ℤ◌, nat_abs, nat_lt, cond, List, [], ◌∷◌, length, slice_index_or, All, Option, Some, None, option_and_then, refl, sym, ap, ◌∙◌, subst, arith, inl, inr}
+use Rattle.std.proofs.Common.{◌≡◌, ℕ, zero, suc, ◌<◌, ◌≤◌, ◌^◌, Bool, true, false, ℤ, pos, negsuc, ◌+ℤ◌, ◌*ℤ◌, ◌≤ℤ◌, ◌<ℤ◌, nat_abs, nat_lt, cond, List, [], ◌∷◌, length, slice_index_or, All, Option, Some, None, option_and_then, refl, sym, ap, ◌∙◌, subst, arith, inl, inr}
 use Rattle.std.specs.Prelude.{int_lt}
 use Rattle.std.specs.Option.{is_some}
 use Rattle.std.proofs.lemmas.Int.{ints}
 use Rattle.std.proofs.lemmas.Bool.{cases_lt}
 use Rattle.std.proofs.lemmas.List.{get_or_default}
 use Rattle.linear_program.specs.Certificates.{CertificateView, IsCertificate}
-use Rattle.linear_program.specs.Duality.{priced_column, priced_sides}
+use Rattle.linear_program.specs.Duality.{priced_column, priced_sides, IsDualFeasible}
 use Rattle.linear_program.specs.Pivots.{first_some, first_below}
 use Rattle.linear_program.specs.Programmes.{RowView, LpView, cell_at, row_at, gain_at}
 use Rattle.linear_program.specs.Sizes.{fitting}
@@ -23,6 +23,11 @@ not_less a b e = omega (arith, ints)
 
 less : (a b : ℤ) → int_lt a b ≡ true → a <ℤ b
 less a b e = omega (arith, ints)
+
+-- a number that is not below 0 is its size
+its_size : (z : ℤ) → pos 0 ≤ℤ z → z ≡ pos (nat_abs z)
+its_size (pos n) h = omega (arith, ints)
+its_size (negsuc n) h = absurd (omega (arith, ints))
 
 -- the row of a number, one without cells beyond the last
 abbrev at : List RowView → ℕ → RowView
@@ -172,6 +177,15 @@ module _ (p : LpView) (c : CertificateView) (sizes : length c.prices ≡ length 
         };
         value = within_best e;
       }
+
+  -- the sizes of the scale and of the best are these numbers, as neither is below 0
+  pub dual_in_sizes : IsCertificate c → IsProof p c → IsDualFeasible p c.prices (pos (nat_abs c.scale))
+  dual_in_sizes certificate proof =
+      let some = certificate.some_scale in
+      subst (λ scale. IsDualFeasible p c.prices scale) (its_size c.scale (omega (arith, ints, some))) proof.dual
+
+  pub sides_in_sizes : IsCertificate c → IsProof p c → priced_sides p.rows c.prices ≤ℤ pos (nat_abs c.best)
+  sides_in_sizes certificate proof = subst (λ best. priced_sides p.rows c.prices ≤ℤ best) (its_size c.best certificate.best_not_negative) proof.value
 
   pub complete : IsProof p c → ProvesOrOverflows (verdict_of p c)
   complete proof = way negative (first_fault p c p.columns) refl (fault_is p.columns (omega arith))

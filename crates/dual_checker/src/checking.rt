@@ -1,19 +1,19 @@
 //! The check of a certificate: multiplications and comparisons alone.
 
-ghost use Rattle.std.specs.Prelude.{◌≡◌, ◌<◌, ◌^◌, ℕ, ◌*◌, ℤ, pos, ◌+ℤ◌, ◌*ℤ◌, nat_abs, length, option_and_then};
+ghost use Rattle.std.specs.Prelude.{◌≡◌, ◌<◌, ◌≤◌, ◌^◌, ℕ, ◌*◌, ℤ, pos, ◌+ℤ◌, ◌*ℤ◌, nat_abs, length, option_and_then};
 ghost use Rattle.platform_file.specs.Ticks.{TimedView, IsTimed};
-ghost use Rattle.schedule_model.specs.declared.schedule.Series.TheVariants.{Tasking};
+ghost use Rattle.schedule_model.specs.declared.schedule.Series.TheVariants.{Tasking, Scatter};
 ghost use Rattle.schedule_model.specs.Throughput.{IsUpperRate};
 ghost use Rattle.linear_program.specs.Programmes.{RowView, cell_at, row_at};
 ghost use Rattle.linear_program.specs.Sizes.{fitting};
 ghost use Rattle.linear_program.specs.Pivots.{first_below};
 ghost use Rattle.std.specs.Prelude.{int_lt};
 ghost use Rattle.tasking_program.specs.Programme.{tasking_programme};
+ghost use Rattle.scatter_program.specs.Programme.{scatter_programme};
 ghost use Rattle.dual_checker.specs.Verdicts.{price_at, fitting_more, fitting_sum, covered, column_fault, first_fault, value_verdict, verdict_of, IsProof, ProvesOrOverflows};
 
 use crate::verdict::Verdict;
 use linear_program::{Certificate, Lp, Row, fitting_product};
-use tasking_program::prices_bound_rates;
 
 /// The sum, where its size is at most 2^127 - 1.
 fn fitting_sum(a: i128, b: i128) -> Option<i128>
@@ -155,17 +155,21 @@ fn verdict(lp: &Lp, certificate: &Certificate) -> Verdict
 /// times the column's gain, and those of the right-hand sides to at most the best. Whoever checks needs to trust neither the
 /// certificate nor the programme that made it.
 ///
-/// Where a certificate of the tasking programme proves, `best / scale` tasks per tick are exceeded by no schedule (clause `rate`, in tasks
-/// per time unit). Takes no memory, and one pass over the rows for each column.
+/// Where a certificate of a platform's programme of tasking proves, no schedule exceeds `best / scale` tasks per tick; where one of its
+/// programme of a scatter does, no schedule exceeds `best / scale` messages to every target per tick (clauses `tasking_rate` and
+/// `scatter_rate`, per time unit). Takes no memory, and one pass over the rows for each column.
 pub fn check(lp: &Lp, certificate: &Certificate) -> Verdict
     requires { length certificate.now.prices ≡ length lp.now.rows }
     ensures verdict { result ≡ verdict_of lp.now certificate.now }
     ensures proof { result ≡ Verdict.Proves → IsProof lp.now certificate.now }
-    ensures rate { (t : TimedView) → IsTimed t → lp.now ≡ tasking_programme t → result ≡ Verdict.Proves
+    ensures tasking_rate { (t : TimedView) → IsTimed t → lp.now ≡ tasking_programme t → result ≡ Verdict.Proves
         → IsUpperRate t Tasking (nat_abs certificate.now.best * t.unit) (nat_abs certificate.now.scale) }
+    ensures scatter_rate { (t : TimedView) → IsTimed t → 1 ≤ length t.platform.targets → lp.now ≡ scatter_programme t
+        → result ≡ Verdict.Proves → IsUpperRate t Scatter (nat_abs certificate.now.best * t.unit) (nat_abs certificate.now.scale) }
     ensures complete { IsProof lp.now certificate.now → ProvesOrOverflows result }
 {
     certificate.known();
-    prices_bound_rates();
+    tasking_program::prices_bound_rates();
+    scatter_program::prices_bound_rates();
     verdict(lp, certificate)
 }
