@@ -1,16 +1,18 @@
 -- The whole numbers by which a solution is scaled: the least common multiples of its denominators and of the costs of the links that carry something.
-use Rattle.std.specs.Prelude.{ℕ, ◌*◌, ◌^◌, List, [], ◌∷◌, map, Option, Some, None, Result, Ok, Err, cond, nat_eq, nat_le}
+use Rattle.std.specs.Prelude.{ℕ, zero, suc, ◌*◌, ◌^◌, Bool, false, not, ◌||◌, List, [], ◌∷◌, length, map, Result, Ok, Err, cond, nat_eq, nat_le}
 use Rattle.ratio_core.specs.Fraction.{Fraction}
 use Rattle.ratio_core.specs.Multiples.{lcm_of}
 use Rattle.platform_file.specs.Ticks.{TimedView}
 use Rattle.schedule_model.specs.Operations.{cost_of}
-use Rattle.tasking_program.specs.declared.columns.Column.{Column}
-use Rattle.tasking_program.specs.declared.columns.Column.TheVariants.{Computes, Flows}
+use Rattle.schedule_model.specs.declared.schedule.Series.{Series}
+use Rattle.programme_rows.specs.Listings.{each_where}
 use Rattle.planner.specs.declared.numbers.PeriodStep.{PeriodStep}
 use Rattle.planner.specs.declared.numbers.PeriodStep.TheVariants.{Denominators, Costs, Product}
 use Rattle.planner.specs.declared.numbers.Scale.{Scale}
 use Rattle.planner.specs.declared.numbers.TableFault.{TableFault}
 use Rattle.planner.specs.declared.numbers.TableFault.TheVariants.{Period}
+use Rattle.planner.specs.Programmes.{kinds_of}
+use Rattle.planner.specs.Flows.{flow_rate}
 
 -- the least common multiple of what stands so far and of the numbers that follow, in their order; the first number that makes it exceed 2^100 ends it
 abbrev pub multiple_of : PeriodStep → ℕ → List ℕ → Result ℕ TableFault
@@ -21,25 +23,22 @@ multiple_of step left (right ∷ rest) = cond (nat_le (lcm_of left right) (2 ^ 1
 abbrev pub common_denominator : List Fraction → Result ℕ TableFault
 common_denominator values = multiple_of Denominators 1 (map (λ value. value.den) values)
 
--- the cost of a column's link, where it carries something
-abbrev pub cost_in : TimedView → Column → Fraction → Option ℕ
-cost_in t (Computes node) value = None
-cost_in t (Flows link) value = cond (nat_eq value.num 0) None (Some (cost_of t link))
+-- some number below n passes
+abbrev pub some_below : ℕ → (ℕ → Bool) → Bool
+some_below zero passes = false
+some_below (suc n) passes = some_below n passes || passes n
 
--- a cost in front of others, where there is one
-abbrev pub with_cost : Option ℕ → List ℕ → List ℕ
-with_cost None costs = costs
-with_cost (Some cost) costs = cost ∷ costs
+-- the link carries something of a kind, on a route or not
+abbrev pub is_in_use : TimedView → Series → List Fraction → ℕ → Bool
+is_in_use t series values link = some_below (kinds_of t series) (λ kind. not (nat_eq (flow_rate t series values kind link).num 0))
 
--- the costs of the links that carry something, in the order of the columns
-abbrev pub costs_over : TimedView → List Column → List Fraction → List ℕ
-costs_over t [] values = []
-costs_over t (column ∷ columns) [] = []
-costs_over t (column ∷ columns) (value ∷ values) = with_cost (cost_in t column value) (costs_over t columns values)
+-- the costs of the links that carry something, in the order of the links
+abbrev pub costs_in_use : TimedView → Series → List Fraction → List ℕ
+costs_in_use t series values = each_where (is_in_use t series values) (cost_of t) (length t.platform.links)
 
 -- the least number that makes each of these costs a divisor
-abbrev pub common_cost : TimedView → List Column → List Fraction → Result ℕ TableFault
-common_cost t columns values = multiple_of Costs 1 (costs_over t columns values)
+abbrev pub common_cost : TimedView → Series → List Fraction → Result ℕ TableFault
+common_cost t series values = multiple_of Costs 1 (costs_in_use t series values)
 
 -- the product of the two, up to the same bound
 abbrev pub product_of : ℕ → ℕ → Result ℕ TableFault
@@ -51,8 +50,8 @@ and_then (Ok number) next = next number
 and_then (Err fault) next = Err fault
 
 -- the ticks in which all values are whole, and how many times as long they have to last: the denominators come first, then the costs, then the product
-abbrev pub scale_of : TimedView → List Column → List Fraction → Result Scale TableFault
-scale_of t columns values =
+abbrev pub scale_of : TimedView → Series → List Fraction → Result Scale TableFault
+scale_of t series values =
     and_then (common_denominator values)
-    (λ ticks. and_then (common_cost t columns values)
+    (λ ticks. and_then (common_cost t series values)
     (λ times. and_then (product_of ticks times) (λ period. Ok (record { ticks = ticks; times = times }))))

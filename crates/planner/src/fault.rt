@@ -8,6 +8,8 @@ use std::fmt;
 /// Why a platform isn't planned. `Display` writes the line that names the fault, without a line feed.
 #[derive(Clone, Copy, Debug, PartialEq, Eq)]
 pub enum PlanFault {
+    /// The platform has no target for the messages of a scatter.
+    NoTargets,
     /// After so many pivots the next one exceeds 2^127 - 1 in size, first at this cell of the tableau.
     Pivot {
         pivots: u64,
@@ -36,6 +38,7 @@ impl fmt::Display for PlanFault {
 
     fn fmt<W: fmt::Write>(&self, f: &mut fmt::Formatter<W>) -> fmt::Result {
         match self {
+            PlanFault::NoTargets => write!(f, "no targets"),
             PlanFault::Pivot {
                 pivots,
                 row,

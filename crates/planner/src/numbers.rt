@@ -1,14 +1,17 @@
 //! The whole numbers by which a solution is scaled.
 
-ghost use Rattle.std.specs.Prelude.{◌≡◌, ◌*◌, ◌≤◌, ◌^◌, [], ◌∷◌, All, length, IfOk, IfSome};
-ghost use Rattle.tasking_program.specs.Columns.{Exists};
-ghost use Rattle.planner.specs.Numbers.{multiple_of, common_denominator, cost_in, common_cost, product_of, scale_of};
+ghost use Rattle.std.specs.Prelude.{◌≡◌, ◌*◌, ◌<◌, ◌≤◌, ◌^◌, not, nat_eq, [], ◌∷◌, All, length, slice_index, IfOk};
+ghost use Rattle.std.specs.List.{list_any};
+ghost use Rattle.exact_simplex.specs.Optima.{first_terms};
+ghost use Rattle.planner.specs.Programmes.{kinds_of};
+ghost use Rattle.planner.specs.Flows.{flow_of};
+ghost use Rattle.planner.specs.Numbers.{multiple_of, common_denominator, common_cost, product_of};
 
+use flow_routes::Flow;
 use listed::NoMemory;
 use platform_file::Timed;
 use ratio_core::{Ratio, lcm_within};
 use std::fmt;
-use tasking_program::Column;
 
 /// The most ticks of a period.
 const MOST_TICKS: u128 = 1 << 100;
@@ -84,7 +87,7 @@ fn multiple(step: PeriodStep, left: u128, right: u128) -> Result<u128, TableFaul
 }
 
 /// The least number that makes every value whole.
-fn common_denominator(values: &[Ratio]) -> Result<u128, TableFault>
+pub(crate) fn common_denominator(values: &[Ratio]) -> Result<u128, TableFault>
     ensures value { result ≡ common_denominator values.now }
     ensures some { IfOk result (λ n. 1 ≤ n) }
 {
@@ -95,36 +98,37 @@ fn common_denominator(values: &[Ratio]) -> Result<u128, TableFault>
     Ok(common)
 }
 
-/// The cost of a column's link, where it carries something.
-fn cost_in(timed: &Timed, column: Column, value: Ratio) -> Option<u64>
-    requires { Exists timed.now column }
-    ensures value { result ≡ cost_in timed.now column value }
-    ensures some { IfSome result (λ cost. 1 ≤ cost) }
+/// Whether a link carries something in one of the flows.
+fn is_in_use(flows: &[Flow], link: usize) -> bool
+    requires { All (λ flow. link < length flow.amounts) flows.now }
+    ensures { result ≡ list_any (λ flow. not (nat_eq (slice_index flow.amounts link) 0)) flows.now }
 {
-    match column {
-        Column::Flows(link) if value.num() > 0 => Some(timed.cost(link)),
-        _ => None,
+    for flow in flows {
+        if flow.amounts.as_slice()[link] > 0 {
+            return true;
+        }
     }
+    false
 }
 
-/// The least common multiple of the costs of the links that carry something.
-fn common_cost(timed: &Timed, columns: &[Column], values: &[Ratio]) -> Result<u128, TableFault>
-    requires exist { All (Exists timed.now) columns.now }
-    requires one_each { length values.now ≡ length columns.now }
-    ensures value { result ≡ common_cost timed.now columns.now values.now }
+/// The least common multiple of the costs of the links that carry something, in the order of the links, given the flows of a solution.
+pub(crate) fn common_cost(timed: &Timed, flows: &[Flow]) -> Result<u128, TableFault>
+    requires { All (λ flow. length flow.amounts ≡ length timed.now.platform.links) flows.now }
+    ensures value { result ≡ cost_of_flows timed.now flows.now }
     ensures some { IfOk result (λ n. 1 ≤ n) }
 {
+    timed.known();
     let mut common = 1;
-    for k in 0..columns.len() {
-        if let Some(cost) = cost_in(timed, columns[k], values[k]) {
-            common = multiple(PeriodStep::Costs, common, u128::from(cost))?;
+    for link in 0..timed.platform().links().len() {
+        if is_in_use(flows, link) {
+            common = multiple(PeriodStep::Costs, common, u128::from(timed.cost(link as u32)))?;
         }
     }
     Ok(common)
 }
 
 /// The product, where it is a period's.
-fn product(left: u128, right: u128) -> Result<u128, TableFault>
+pub(crate) fn product(left: u128, right: u128) -> Result<u128, TableFault>
     ensures value { result ≡ product_of left right }
     ensures period { IfOk result (λ ticks. (ticks ≡ left * right) × (ticks ≤ 2 ^ 100)) }
 {
@@ -133,21 +137,4 @@ fn product(left: u128, right: u128) -> Result<u128, TableFault>
         Some(ticks) if ticks <= MOST_TICKS => Ok(ticks),
         _ => Err(TableFault::Period { step, left, right }),
     }
-}
-
-/// The whole numbers by which a solution is scaled.
-pub(crate) fn scale_of(
-    timed: &Timed,
-    columns: &[Column],
-    values: &[Ratio],
-) -> Result<Scale, TableFault>
-    requires exist { All (Exists timed.now) columns.now }
-    requires one_each { length values.now ≡ length columns.now }
-    ensures value { result ≡ scale_of timed.now columns.now values.now }
-    ensures some { IfOk result (λ scale. (1 ≤ scale.ticks) × (1 ≤ scale.times)) }
-{
-    let ticks = common_denominator(values)?;
-    let times = common_cost(timed, columns, values)?;
-    product(ticks, times)?;
-    Ok(Scale { ticks, times })
 }
