@@ -1,5 +1,5 @@
 -- Where the run has ended, the values are feasible, the prices dual-feasible, and the gains equal.
-use Rattle.std.proofs.Common.{◌≡◌, ◌≢◌, ℕ, zero, suc, ◌+◌, ◌*◌, ◌/◌, ◌<◌, ◌≤◌, ℤ, pos, neg_ℤ, nat_abs, ◌+ℤ◌, ◌-ℤ◌, ◌*ℤ◌, ◌≤ℤ◌, ◌<ℤ◌, cond, true, false, nat_eq, Option, Some, None, List, [], ◌∷◌, length, length-append, slice_index_or, arith, refl, sym, ◌∙◌, ap, inl, inr}
+use Rattle.std.proofs.Common.{◌≡◌, ◌≢◌, ℕ, zero, suc, ◌+◌, ◌*◌, ◌/◌, ◌<◌, ◌≤◌, ℤ, pos, neg_ℤ, nat_abs, ◌+ℤ◌, ◌-ℤ◌, ◌*ℤ◌, ◌≤ℤ◌, ◌<ℤ◌, cond, true, false, nat_eq, Option, Some, None, Ok, List, [], ◌∷◌, length, length-append, slice_index_or, arith, refl, sym, ◌∙◌, ap, inl, inr}
 use Rattle.std.proofs.Math.IntN.{*ℤ-zero, *ℤ_comm}
 use Rattle.std.proofs.Math.Nat.{div-mul_cancel, le_of_mul-le-mul_left}
 use Rattle.std.proofs.lemmas.Int.{ints}
@@ -11,13 +11,18 @@ use Rattle.ratio_core.proofs.GcdLemmas.{gcd_some, gcd_divides}
 use Rattle.linear_program.proofs.Integers.{not_negative_times, times_product, times_difference}
 use Rattle.linear_program.proofs.Sums.{same_sum, first_sum}
 use Rattle.exact_simplex.proofs.Points.{size_of, start_line, start_gain, feasible_from_lines, own_cell, denominator, others, denominator_positive, others_positive, basics_differ}
-use Rattle.linear_program.proofs.Starts.{start_value, start_last, side_not_negative}
+use Rattle.linear_program.proofs.Starts.{start_value, start_last, side_not_negative, start_canonical, start_derived}
 use Rattle.linear_program.proofs.Vectors.{at_column, at_same, at_other, spread, spread_not_negative, spread_beside, spread_there, product_out, balanced_solves}
 use Rattle.linear_program.specs.Sums.{sum_below}
 use Rattle.linear_program.specs.Programmes.{LpView, RowView, cell_at, row_at, gain_at, gain_value, IsLp}
 use Rattle.linear_program.specs.Duality.{priced_column, priced_sides}
 use Rattle.linear_program.specs.Tableaux.{TableauView, objective_column, side_column, Solves, IsCanonical, IsDerived}
 use Rattle.linear_program.specs.Starts.{start_cell, start_tableau}
+use Rattle.linear_program.specs.Pivots.{Pivoted, pivoted}
+use Rattle.linear_program.specs.declared.certificate.Optimum.{Optimum}
+use Rattle.exact_simplex.proofs.Choices.{ended_is, step_kept}
+use Rattle.exact_simplex.specs.Bland.{entering_column, leaving_row, step_by_pivot, step_by_row, step_by_column, Run, spent_unless_ended, run_on, run_from, bland_run}
+use Rattle.exact_simplex.specs.Answers.{answer_of}
 use Rattle.exact_simplex.specs.Optima.{first_terms, row_of, value_in, value_of, scale_of, best_of, price_of, optimum_of, HasEnded, IsOptimal}
 
 -- what the prices say of a column and of the right sides, as sums over the rows
@@ -285,3 +290,37 @@ ended_is_optimal p t lp canonical derived ended =
       priced = best_priced;
       gains = gained ∙ ap (λ z. best_of t *ℤ z) (sym den_size);
     }
+
+-- the answer of a run that has ended, from any tableau that a run passes
+ended_from : (p : LpView) (left made : ℕ) (t u : TableauView) → IsLp p → IsCanonical t → IsDerived (start_tableau p) t → run_from left made t ≡ Run.ended u → IsOptimal p (optimum_of u)
+unfolding run_from
+ended_from p zero made t u lp canonical derived h =
+    elim (entering_column t) as (λ o. entering_column t ≡ o → spent_unless_ended t o ≡ Run.ended u → IsOptimal p (optimum_of u)) [
+      | Some column ↦ λ e h. cc
+      | None ↦ λ e h. let same : t ≡ u = cc in rw (← same) (ended_is_optimal p t lp canonical derived (ended_is t e))
+    ] refl h
+ended_from p (suc left) made t u lp canonical derived h =
+    elim (entering_column t) as (λ o. entering_column t ≡ o → run_on t made (λ v. run_from left (made + 1) v) (step_by_column t o) ≡ Run.ended u → IsOptimal p (optimum_of u)) [
+      | None ↦ λ e h. let same : t ≡ u = cc in rw (← same) (ended_is_optimal p t lp canonical derived (ended_is t e))
+      | Some column ↦ λ e h.
+          elim (leaving_row t column) as (λ o. leaving_row t column ≡ o → run_on t made (λ v. run_from left (made + 1) v) (step_by_row t column o) ≡ Run.ended u → IsOptimal p (optimum_of u)) [
+            | None ↦ λ k h. cc
+            | Some row ↦ λ k h.
+                elim (pivoted t row column) as (λ q. pivoted t row column ≡ q → run_on t made (λ v. run_from left (made + 1) v) (step_by_pivot q) ≡ Run.ended u → IsOptimal p (optimum_of u)) [
+                  | Pivoted.tableau v ↦ λ f h.
+                      let kept = step_kept p t v column row canonical derived e k f in
+                      ended_from p left (made + 1) v u lp kept.0 kept.1 h
+                  | Pivoted.overflow i j ↦ λ f h. cc
+                ] refl h
+          ] refl h
+    ] refl h
+
+-- the answer of a run that has ended, from the start
+pub ended_run_is_optimal : (p : LpView) (limit : ℕ) (optimum : Optimum) → IsLp p → answer_of limit (bland_run limit (start_tableau p)) ≡ Some (Ok optimum) → IsOptimal p optimum
+ended_run_is_optimal p limit optimum lp h =
+    elim (bland_run limit (start_tableau p)) as (λ r. bland_run limit (start_tableau p) ≡ r → answer_of limit r ≡ Some (Ok optimum) → IsOptimal p optimum) [
+      | Run.ended u ↦ λ e h. let same : optimum_of u ≡ optimum = cc in rw (← same) (ended_from p limit 0 (start_tableau p) u lp (start_canonical p lp) (start_derived p) e)
+      | Run.spent u ↦ λ e h. cc
+      | Run.unlimited u ↦ λ e h. cc
+      | Run.overflow pivots row column u ↦ λ e h. cc
+    ] refl h

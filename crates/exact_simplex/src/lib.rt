@@ -7,5 +7,5 @@ mod laws;
 mod solving;
 
 pub use fault::SolveFault;
-pub use laws::{bounded_runs_find_rows, choices_follow_bland};
+pub use laws::{bounded_runs_find_rows, choices_follow_bland, ended_runs_are_optimal};
 pub use solving::solve;

@@ -7,7 +7,9 @@ use crate::tests::comparing::{fails_at, holds, is_written};
 use crate::tests::models::{crossing, halves};
 use crate::tests::programmes::is_optimum;
 use dense_tableau::Dense;
-use exact_simplex::{SolveFault, bounded_runs_find_rows, choices_follow_bland, solve};
+use exact_simplex::{
+    SolveFault, bounded_runs_find_rows, choices_follow_bland, ended_runs_are_optimal, solve,
+};
 use linear_program::{Lp, Optimum, Tableau};
 use std::alloc::Global;
 use std::test::Fail;
@@ -46,6 +48,7 @@ fn solves_one_row(rt: HostRuntime) -> Result<(), Fail> {
 fn cites_laws() {
     choices_follow_bland();
     bounded_runs_find_rows();
+    ended_runs_are_optimal();
 }
 
 #[test]

@@ -1,6 +1,8 @@
-use Rattle.std.proofs.Common.{rules, arith}
+use Rattle.std.proofs.Common.{rules, arith, ap}
 use Rattle.std.proofs.lemmas.Grind.{common_steps}
-use Rattle.exact_simplex.proofs.Ends.{best_not_negative, ended_is_optimal}
+use Rattle.exact_simplex.specs.Optima.{optimum_of}
+use Rattle.exact_simplex.specs.Answers.{answer_of}
+use Rattle.exact_simplex.proofs.Ends.{best_not_negative, ended_run_is_optimal}
 use Rattle.exact_simplex.proofs.solving.solve.Goals as goal
 
 pub optimum-requires : goal.optimum-requires
@@ -16,8 +18,8 @@ optimum-requires g c =
 pub returns-clause-optimal : goal.returns-clause-optimal
 returns-clause-optimal g c p lp start =
     let t = g.T.Tableau.tableau c.run.new.tableau in
-    let e = c.in_ok-run.ensures in
-    rw c.in_ok-optimum.ensures (ended_is_optimal p t lp e.canonical (rw start at e.derived) e.gainless)
+    let ended = rw start at c.in_ok-run.ensures.ended in
+    rw c.in_ok-optimum.ensures (ended_run_is_optimal p _ (optimum_of t) lp (ap (answer_of _) ended))
 
 pub returns-in_err-run-clause-exact : goal.returns-in_err-run-clause-exact
 returns-in_err-run-clause-exact g c = first_of (search rules, grind (arith, common_steps))
