@@ -36,12 +36,16 @@ table_with t scale routes parts = divided_table t scale (common_factor t scale.t
 abbrev pub AreFirstParts : TimedView → ℕ → List Route → List SlotPart → Type 0
 AreFirstParts t total routes parts = AreChosenParts (2 * length t.platform.nodes) (weights_of t routes).edges (padded (weights_of t routes) total) total parts
 
+-- the numbers are those by which the values are scaled, and the routes the ruled ones of their flows
+pub record IsRoutedIn (t : TimedView) (series : Series) (values : List Fraction) (scale : Scale) (routes : List Route) : Type 0 where
+  pub scaled : scale_of t series values ≡ Ok scale
+  pub routed : AreRoutesBelow (flow_of t series values scale.ticks) (kinds_of t series) routes
+
 -- the table is the one of the ruled routes of the values' flows and of the ruled parts of what these send over the links
 pub record IsTableOf (t : TimedView) (series : Series) (values : List Fraction) (table : Table) : Type 0 where
   pub scale : Scale
-  pub scaled : scale_of t series values ≡ Ok scale
   pub routes : List Route
-  pub routed : AreRoutesBelow (flow_of t series values scale.ticks) (kinds_of t series) routes
+  pub routed : IsRoutedIn t series values scale routes
   pub parts : List SlotPart
   pub parted : AreParts (weights_of t routes) scale.ticks parts
   pub first_parts : AreFirstParts t scale.ticks routes parts

@@ -1,5 +1,6 @@
 -- The whole numbers by which a solution is scaled: the least common multiples of its denominators and of the costs of the links that carry something.
-use Rattle.std.specs.Prelude.{ℕ, zero, suc, ◌*◌, ◌^◌, Bool, false, not, ◌||◌, List, [], ◌∷◌, length, map, Result, Ok, Err, cond, nat_eq, nat_le}
+use Rattle.std.specs.Prelude.{ℕ, zero, suc, ◌*◌, ◌^◌, Bool, false, not, ◌||◌, List, [], ◌∷◌, length, map, Result, Ok, Err, cond, nat_eq, nat_le, slice_index}
+use Rattle.std.specs.List.{list_any}
 use Rattle.ratio_core.specs.Fraction.{Fraction}
 use Rattle.ratio_core.specs.Multiples.{lcm_of}
 use Rattle.platform_file.specs.Ticks.{TimedView}
@@ -11,6 +12,7 @@ use Rattle.planner.specs.declared.numbers.PeriodStep.TheVariants.{Denominators, 
 use Rattle.planner.specs.declared.numbers.Scale.{Scale}
 use Rattle.planner.specs.declared.numbers.TableFault.{TableFault}
 use Rattle.planner.specs.declared.numbers.TableFault.TheVariants.{Period}
+use Rattle.flow_routes.specs.declared.flow.Flow.{Flow}
 use Rattle.planner.specs.Programmes.{kinds_of}
 use Rattle.planner.specs.Flows.{flow_rate}
 
@@ -31,6 +33,10 @@ some_below (suc n) passes = some_below n passes || passes n
 -- the link carries something of a kind, on a route or not
 abbrev pub is_in_use : TimedView → Series → List Fraction → ℕ → Bool
 is_in_use t series values link = some_below (kinds_of t series) (λ kind. not (nat_eq (flow_rate t series values kind link).num 0))
+
+-- some flow has an amount on the link
+abbrev pub goes_over : List Flow → ℕ → Bool
+goes_over flows link = list_any (λ flow. not (nat_eq (slice_index flow.amounts link) 0)) flows
 
 -- the costs of the links that carry something, in the order of the links
 abbrev pub costs_in_use : TimedView → Series → List Fraction → List ℕ

@@ -8,7 +8,10 @@ mod numbers;
 mod planned;
 mod planning;
 mod pricing;
+mod programme;
+mod routing;
 mod scaling;
+mod steadying;
 mod weighing;
 
 pub use fault::PlanFault;
@@ -17,3 +20,4 @@ pub use numbers::{PeriodStep, TableFault};
 pub use planned::Plan;
 pub use planning::plan;
 pub use pricing::prices;
+pub use programme::{prices_bound_rates, programme_of};

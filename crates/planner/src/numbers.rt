@@ -1,11 +1,9 @@
 //! The whole numbers by which a solution is scaled.
 
-ghost use Rattle.std.specs.Prelude.{◌≡◌, ◌*◌, ◌<◌, ◌≤◌, ◌^◌, not, nat_eq, [], ◌∷◌, All, length, slice_index, IfOk};
-ghost use Rattle.std.specs.List.{list_any};
-ghost use Rattle.exact_simplex.specs.Optima.{first_terms};
-ghost use Rattle.planner.specs.Programmes.{kinds_of};
-ghost use Rattle.planner.specs.Flows.{flow_of};
-ghost use Rattle.planner.specs.Numbers.{multiple_of, common_denominator, common_cost, product_of};
+ghost use Rattle.std.specs.Prelude.{◌≡◌, ◌*◌, ◌<◌, ◌≤◌, ◌^◌, [], ◌∷◌, All, length, IfOk};
+ghost use Rattle.schedule_model.specs.Operations.{cost_of};
+ghost use Rattle.programme_rows.specs.Listings.{each_where};
+ghost use Rattle.planner.specs.Numbers.{goes_over, multiple_of, common_denominator, product_of};
 
 use flow_routes::Flow;
 use listed::NoMemory;
@@ -101,7 +99,7 @@ pub(crate) fn common_denominator(values: &[Ratio]) -> Result<u128, TableFault>
 /// Whether a link carries something in one of the flows.
 fn is_in_use(flows: &[Flow], link: usize) -> bool
     requires { All (λ flow. link < length flow.amounts) flows.now }
-    ensures { result ≡ list_any (λ flow. not (nat_eq (slice_index flow.amounts link) 0)) flows.now }
+    ensures { result ≡ goes_over flows.now link }
 {
     for flow in flows {
         if flow.amounts.as_slice()[link] > 0 {
@@ -114,7 +112,7 @@ fn is_in_use(flows: &[Flow], link: usize) -> bool
 /// The least common multiple of the costs of the links that carry something, in the order of the links, given the flows of a solution.
 pub(crate) fn common_cost(timed: &Timed, flows: &[Flow]) -> Result<u128, TableFault>
     requires { All (λ flow. length flow.amounts ≡ length timed.now.platform.links) flows.now }
-    ensures value { result ≡ cost_of_flows timed.now flows.now }
+    ensures value { result ≡ multiple_of PeriodStep.Costs 1 (each_where (goes_over flows.now) (cost_of timed.now) (length timed.now.platform.links)) }
     ensures some { IfOk result (λ n. 1 ≤ n) }
 {
     timed.known();

@@ -58,7 +58,7 @@ pub(crate) fn common_factor(
 }
 
 /// A copy of some numbers.
-fn copied(alloc: Global, numbers: &[u32]) -> Result<Listed<u32>, NoMemory>
+pub(crate) fn copied(alloc: Global, numbers: &[u32]) -> Result<Listed<u32>, NoMemory>
     ensures { IfOk result (λ list. list ≡ numbers.now) }
 {
     let mut list = Listed::new(alloc);
