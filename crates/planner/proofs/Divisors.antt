@@ -9,7 +9,7 @@ use Rattle.ratio_core.proofs.GcdLemmas.{gcd_divides}
 use Rattle.platform_file.specs.Ticks.{TimedView}
 use Rattle.flow_routes.specs.declared.flow.Route.{Route}
 use Rattle.bipartite_slots.specs.declared.weights.SlotPart.{SlotPart}
-use Rattle.tasking_program.proofs.SteadyPoints.{front, back}
+use Rattle.programme_rows.proofs.Listings.{front, back}
 use Rattle.planner.specs.Scales.{factor_with, part_numbers, common_factor}
 
 factor_divides : (common : ℕ) (numbers : List ℕ) → (factor_with common numbers ∣ common) × All (λ n. factor_with common numbers ∣ n) numbers

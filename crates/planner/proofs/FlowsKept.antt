@@ -11,9 +11,10 @@ use Rattle.platform_file.specs.Ticks.{TimedView, IsTimed}
 use Rattle.schedule_model.specs.Operations.{sender_of, receiver_of, no_link}
 use Rattle.flow_routes.specs.Flows.{link_at, passing, enters, leaves, IsFlow}
 use Rattle.flow_routes.specs.declared.flow.Flow.{Flow}
+use Rattle.programme_rows.specs.Listings.{total_below}
 use Rattle.tasking_program.specs.declared.columns.Column.TheVariants.{Computes, Flows}
 use Rattle.tasking_program.specs.Columns.{computes, carries}
-use Rattle.tasking_program.specs.Points.{total_below, over_links, AreLookedUp, IsSteady}
+use Rattle.tasking_program.specs.Points.{over_links, AreLookedUp, IsSteady}
 use Rattle.planner.specs.Flows.{tasks_in, amount_in, ends_of, flow_of}
 use Rattle.planner.proofs.Terms.{length_terms, term_there}
 

@@ -9,10 +9,11 @@ use Rattle.std.proofs.lemmas.List.Elements.{All-get_or}
 use Rattle.ratio_core.specs.Fraction.{Fraction, whole}
 use Rattle.platform_file.specs.Ticks.{TimedView, IsTimed}
 use Rattle.schedule_model.specs.Operations.{time_of, cost_of, sender_of}
+use Rattle.programme_rows.specs.Listings.{total_below}
 use Rattle.tasking_program.specs.declared.columns.Column.{Column}
 use Rattle.tasking_program.specs.declared.columns.Column.TheVariants.{Computes, Flows}
 use Rattle.tasking_program.specs.Columns.{computes, carries, columns_of, column_at, Exists}
-use Rattle.tasking_program.specs.Points.{total_below, AreLookedUp, IsSteady}
+use Rattle.tasking_program.specs.Points.{AreLookedUp, IsSteady}
 use Rattle.planner.specs.Flows.{tasks_in, amount_in}
 use Rattle.planner.proofs.Terms.{true_or_false}
 use Rattle.planner.proofs.FlowsKept.{unused, sender_inside}

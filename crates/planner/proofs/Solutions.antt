@@ -17,11 +17,13 @@ use Rattle.flow_routes.specs.Routes.{AreRoutes, carried, brought}
 use Rattle.flow_routes.specs.declared.flow.Route.{Route}
 use Rattle.bipartite_slots.specs.Parts.{AreParts}
 use Rattle.bipartite_slots.specs.declared.weights.SlotPart.{SlotPart}
+use Rattle.programme_rows.specs.Listings.{total_below}
+use Rattle.programme_rows.specs.LookUps.{value_of}
 use Rattle.tasking_program.specs.declared.columns.Column.{Column}
 use Rattle.tasking_program.specs.declared.columns.Column.TheVariants.{Computes, Flows}
 use Rattle.tasking_program.specs.Columns.{columns_of, computes}
 use Rattle.tasking_program.specs.Programme.{tasking_programme}
-use Rattle.tasking_program.specs.Points.{total_below, look_up, amounts_of, AreLookedUp, IsSteady}
+use Rattle.tasking_program.specs.Points.{same_column, amounts_of, AreLookedUp, IsSteady}
 use Rattle.planner.specs.declared.numbers.PeriodStep.TheVariants.{Denominators, Costs, Product}
 use Rattle.planner.specs.declared.numbers.Scale.{Scale}
 use Rattle.planner.specs.declared.numbers.TableFault.{TableFault}
@@ -69,7 +71,7 @@ steps (Ok ticks) (Ok times) scale e =
 -- ---- costs
 
 -- a link that carries something has its cost listed
-listed_cost : (t : TimedView) (times link : ℕ) (columns : List Column) (values : List Fraction) → All (λ n. n ∣ times) (costs_over t columns values) → 1 ≤ (look_up (Flows link) columns values).num → cost_of t link ∣ times
+listed_cost : (t : TimedView) (times link : ℕ) (columns : List Column) (values : List Fraction) → All (λ n. n ∣ times) (costs_over t columns values) → 1 ≤ (value_of (same_column (Flows link)) columns values).num → cost_of t link ∣ times
 listed_cost t times link [] values all some = let none : 1 ≤ 0 = some in absurd (omega (arith, none))
 listed_cost t times link (column ∷ columns) [] all some = let none : 1 ≤ 0 = some in absurd (omega (arith, none))
 listed_cost t times link (Computes node ∷ columns) (value ∷ values) all some = listed_cost t times link columns values all some
@@ -237,7 +239,7 @@ module _ (t : TimedView) (values : List Fraction) (scale : Scale) (timed : IsTim
           | inl there ↦
               let most = within link there in
               mod-eq-zero_of_dvd (cost_of t link)
-              (listed_cost t scale.times link (columns_of t) values whole_costs (some_rate ticks (look_up (Flows link) (columns_of t) values) (omega (arith, carries, most))))
+              (listed_cost t scale.times link (columns_of t) values whole_costs (some_rate ticks (value_of (same_column (Flows link)) (columns_of t) values) (omega (arith, carries, most))))
           | inr past ↦ let none = carries_none (length t.platform.links) link routes links_there past in absurd (omega (arith, none, carries))
         ]
 

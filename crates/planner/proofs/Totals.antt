@@ -15,7 +15,7 @@ use Rattle.schedule_model.specs.Operations.{time_of}
 use Rattle.flow_routes.specs.Routes.{brought}
 use Rattle.flow_routes.specs.declared.flow.Route.{Route}
 use Rattle.tasking_program.specs.Columns.{computes}
-use Rattle.tasking_program.specs.Points.{total_below}
+use Rattle.programme_rows.specs.Listings.{total_below}
 use Rattle.planner.proofs.FlowsKept.{same_total}
 
 -- ---- sums

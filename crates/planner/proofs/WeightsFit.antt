@@ -16,9 +16,10 @@ use Rattle.flow_routes.specs.declared.flow.Route.{Route}
 use Rattle.bipartite_slots.specs.Parts.{Exist, AreApart, AreWithin}
 use Rattle.bipartite_slots.specs.declared.weights.Edge.{Edge}
 use Rattle.exact_simplex.specs.Optima.{first_terms}
+use Rattle.programme_rows.specs.Listings.{total_below}
 use Rattle.tasking_program.specs.declared.columns.Column.TheVariants.{Flows}
 use Rattle.tasking_program.specs.Columns.{carries}
-use Rattle.tasking_program.specs.Points.{total_below, over_links, AreLookedUp, IsSteady}
+use Rattle.tasking_program.specs.Points.{over_links, AreLookedUp, IsSteady}
 use Rattle.planner.specs.Flows.{amount_in}
 use Rattle.planner.specs.Loads.{edge_of, weights_of}
 use Rattle.planner.proofs.Terms.{length_terms, term_there}

@@ -1,25 +1,28 @@
 -- Prices that cover the programme: one tick of each processor.
-use Rattle.std.proofs.Common.{◌≡◌, ◌≢◌, ℕ, ◌+◌, ◌*◌, ◌<◌, ◌≤◌, Bool, true, false, nat_eq, List, [], ◌∷◌, ◌++◌, length, map, slice_index_or, unwrap_or, All, Option, Some, None, IfSome, ℤ, pos, ◌*ℤ◌, ◌≤ℤ◌, refl, sym, ap, ◌∙◌, arith}
+use Rattle.std.proofs.Common.{◌≡◌, ◌≢◌, ℕ, ◌+◌, ◌*◌, ◌<◌, ◌≤◌, Bool, true, false, nat_eq, List, ◌++◌, length, slice_index_or, unwrap_or, All, Option, Some, None, IfSome, ℤ, pos, ◌*ℤ◌, ◌≤ℤ◌, refl, sym, ap, ◌∙◌, arith}
 use Rattle.std.specs.Option.{is_some}
-use Rattle.std.proofs.Math.IntN.{zero-*ℤ}
 use Rattle.std.proofs.lemmas.Int.{ints}
 use Rattle.std.proofs.lemmas.Bool.{eq-eqb, ne_eqb}
 use Rattle.std.proofs.lemmas.List.{length-append, length-map, get_or-map}
-use Rattle.std.proofs.lemmas.List.Elements.{All-append, All-cons, All-nil}
+use Rattle.std.proofs.lemmas.List.Elements.{All-append}
 use Rattle.linear_program.specs.Sums.{sum_below}
 use Rattle.linear_program.specs.Programmes.{RowView, cell_at, gain_at}
 use Rattle.linear_program.specs.Duality.{priced_column, IsBounded}
 use Rattle.linear_program.proofs.Sums.{zero_sum, single_sum}
 use Rattle.platform_file.specs.Ticks.{TimedView, IsTimed}
 use Rattle.schedule_model.specs.Operations.{time_of}
+use Rattle.programme_rows.specs.Listings.{each_where}
+use Rattle.programme_rows.specs.Cells.{where_true}
+use Rattle.programme_rows.proofs.Listings.{each_all, each_few, sum_over_each}
+use Rattle.programme_rows.proofs.Cells.{cell_there}
+use Rattle.programme_rows.proofs.Weights.{where_nothing}
+use Rattle.programme_rows.proofs.Prices.{nothing, ones, priced_front, constant}
 use Rattle.tasking_program.specs.declared.columns.Column.{Column}
 use Rattle.tasking_program.specs.declared.columns.Column.TheVariants.{Computes, Flows}
 use Rattle.tasking_program.specs.declared.rows.Limit.TheVariants.{Compute as Processor, Send as SendPort, Receive as ReceivePort, Supply}
-use Rattle.tasking_program.specs.Columns.{each_where, computes, carries, columns_of, column_at, Exists}
-use Rattle.tasking_program.specs.Rows.{where_true, cell_of, is_limited, row_of, rows_of}
+use Rattle.tasking_program.specs.Columns.{computes, carries, columns_of, column_at, Exists}
+use Rattle.tasking_program.specs.Rows.{cell_of, is_limited, row_of, rows_of}
 use Rattle.tasking_program.specs.Programme.{gain_of, tasking_programme}
-use Rattle.tasking_program.proofs.Listings.{each_all, each_few, sum_over, sum_over_each}
-use Rattle.tasking_program.proofs.Cells.{cell_there}
 
 -- each column of the programme exists
 pub columns_exist : (t : TimedView) → All (Exists t) (columns_of t)
@@ -35,21 +38,6 @@ columns_few t =
   where
     few : {a b c n m : ℕ} → c ≡ a + b → a ≤ n → b ≤ m → c ≤ n + m
     few e h k = omega arith
-
-abbrev nothing : List RowView → List ℤ
-nothing rows = map (λ _. pos 0) rows
-
-abbrev ones : List RowView → List ℤ
-ones rows = map (λ _. pos 1) rows
-
-priced_nothing : (rows : List RowView) (j : ℕ) → priced_column rows (nothing rows) j ≡ pos 0
-priced_nothing [] j = refl
-priced_nothing (row ∷ rows) j = omega (arith, ints, priced_nothing rows j, zero-*ℤ (cell_at row.cells j))
-
--- the first rows at a price of one and the rest for nothing
-priced_front : (front rest : List RowView) (j : ℕ) → priced_column (front ++ rest) (ones front ++ nothing rest) j ≡ sum_over (λ row. cell_at row.cells j) front
-priced_front [] rest j = priced_nothing rest j
-priced_front (row ∷ front) rest j = omega (arith, ints, priced_front front rest j)
 
 module _ (t : TimedView) (timed : IsTimed t) where
   abbrev rest : List RowView
@@ -84,22 +72,18 @@ module _ (t : TimedView) (timed : IsTimed t) where
       free false z e = refl
 
       none : (i : ℕ) → term j i ≡ pos 0
-      none i = free (computes t i) _ (cell_there (cell_of t Processor i) (columns_of t) j l ∙ ap (cell_of t Processor i) e)
+      none i = free (computes t i) _ (cell_there (λ k. cell_of t Processor i (column_at (columns_of t) k)) (length (columns_of t)) j l ∙ ap (cell_of t Processor i) e)
   covered j l (Computes node) e exists =
       rw (single_sum (length t.platform.nodes) node (term j) exists.0 (λ i m apart. none i apart), here) (one _ (some_ticks node exists.0 exists.1))
     where
       cell : (i : ℕ) → cell_at (row_of t Processor i).cells j ≡ where_true (nat_eq node i) (pos (time_of t node))
-      cell i = cell_there (cell_of t Processor i) (columns_of t) j l ∙ ap (cell_of t Processor i) e
+      cell i = cell_there (λ k. cell_of t Processor i (column_at (columns_of t) k)) (length (columns_of t)) j l ∙ ap (cell_of t Processor i) e
 
       here : term j node ≡ pos (time_of t node)
       here = rw (cell node, exists.1, eq-eqb node node refl) refl
 
-      free : (b : Bool) → where_true b (pos 0) ≡ pos 0
-      free true = refl
-      free false = refl
-
       none : (i : ℕ) → i ≢ node → term j i ≡ pos 0
-      none i apart = rw (cell i, ne_eqb node i (λ e. apart (sym e))) (free (computes t i))
+      none i apart = rw (cell i, ne_eqb node i (λ e. apart (sym e))) (where_nothing (computes t i))
 
       one : (n : ℕ) → 1 ≤ n → pos 1 ≤ℤ pos n
       one n h = omega (arith, ints)
@@ -118,10 +102,6 @@ module _ (t : TimedView) (timed : IsTimed t) where
     };
   }
     where
-      constant : (z : ℤ) → pos 0 ≤ℤ z → (rows : List RowView) → All (λ price. pos 0 ≤ℤ price) (map (λ _. z) rows)
-      constant z h [] = All-nil (λ price. pos 0 ≤ℤ price)
-      constant z h (row ∷ rows) = All-cons (λ price. pos 0 ≤ℤ price) z _ h (constant z h rows)
-
       gained : (j : ℕ) → j < length (columns_of t) → gain_at (tasking_programme t) j ≡ gain_of (column_at (columns_of t) j)
       gained j l = get_or-map gain_of (columns_of t) j (Computes 0) (pos 0) l
 

@@ -1,5 +1,5 @@
 -- The counts of a schedule are a feasible point.
-use Rattle.std.proofs.Common.{◌≡◌, ℕ, zero, suc, ◌+◌, ◌*◌, ◌/◌, ◌<◌, ◌≤◌, Bool, true, false, not, ◌&&◌, cond, nat_eq, List, [], ◌∷◌, length, get_or, All, count_by, sum_by, Option, None, IsSome, slice_index_or, ℤ, pos, ◌+ℤ◌, ◌-ℤ◌, ◌*ℤ◌, ◌≤ℤ◌, refl, ap, ◌∙◌, arith}
+use Rattle.std.proofs.Common.{◌≡◌, ℕ, zero, suc, ◌+◌, ◌*◌, ◌/◌, ◌<◌, ◌≤◌, Bool, true, false, not, ◌&&◌, cond, nat_eq, List, [], ◌∷◌, length, get_or, All, count_by, Option, None, IsSome, slice_index_or, ℤ, pos, ◌+ℤ◌, ◌-ℤ◌, ◌*ℤ◌, ◌≤ℤ◌, refl, ap, ◌∙◌, arith}
 use Rattle.std.proofs.Math.IntN.{*ℤ-zero, zero-*ℤ}
 use Rattle.std.proofs.lemmas.Int.{ints}
 use Rattle.std.proofs.lemmas.Bool.{eqb-true, le-leb}
@@ -8,8 +8,7 @@ use Rattle.std.proofs.lemmas.List.Sums.{sum_by-cons}
 use Rattle.std.proofs.lemmas.List.Elements.{All-append}
 use Rattle.linear_program.specs.Programmes.{RowView, row_value}
 use Rattle.linear_program.specs.Duality.{IsFeasible}
-use Rattle.linear_program.proofs.Integers.{times_keeps_order, times_sum}
-use Rattle.linear_program.proofs.Sums.{same_sum}
+use Rattle.linear_program.proofs.Integers.{times_keeps_order}
 use Rattle.platform_file.specs.Platform.{is_master}
 use Rattle.platform_file.specs.Ticks.{TimedView, IsTimed}
 use Rattle.schedule_model.specs.declared.schedule.Op.{Op}
@@ -22,14 +21,16 @@ use Rattle.schedule_model.specs.Throughput.{send_ticks, receive_ticks, compute_t
 use Rattle.schedule_model.proofs.Ports.{sends_fit, receives_fit, computes_fit}
 use Rattle.schedule_model.proofs.PortUse.{count_alike}
 use Rattle.schedule_model.proofs.Stocks.{count_fewer}
+use Rattle.programme_rows.specs.Cells.{where_true}
+use Rattle.programme_rows.proofs.Listings.{sum_over, each_all}
+use Rattle.programme_rows.proofs.Weights.{row_by_columns, sums_bounded, one_use, no_use}
+use Rattle.tasking_program.specs.declared.columns.Column.TheVariants.{Computes}
 use Rattle.tasking_program.specs.declared.rows.Limit.{Limit}
 use Rattle.tasking_program.specs.declared.rows.Limit.TheVariants.{Compute as Processor, Send as SendPort, Receive as ReceivePort, Supply}
-use Rattle.tasking_program.specs.Columns.{computes, carries, columns_of, column_at}
-use Rattle.tasking_program.specs.Rows.{where_true, cell_of, side_of, is_limited, row_of, rows_of}
+use Rattle.tasking_program.specs.Columns.{computes, carries, columns_of}
+use Rattle.tasking_program.specs.Rows.{cell_of, side_of, is_limited, row_of, rows_of}
 use Rattle.tasking_program.specs.Programme.{tasking_programme}
-use Rattle.tasking_program.specs.Counts.{counts_of}
-use Rattle.tasking_program.proofs.Listings.{sum_over, each_all}
-use Rattle.tasking_program.proofs.Cells.{cell_there}
+use Rattle.tasking_program.specs.Counts.{operations_in, counts_of}
 use Rattle.tasking_program.proofs.Weights.{IsThere, weight, counts_weigh}
 
 -- a look-up that finds something is inside
@@ -37,14 +38,6 @@ pub inside : {A : Type 0} (xs : List (Option A)) (k : ℕ) → IsSome (slice_ind
 inside [] k some = let bad : false ≡ true = some in cc
 inside (x ∷ xs) zero some = omega arith
 inside (x ∷ xs) (suc k) some = let there = inside xs k some in omega (arith, there)
-
--- sums of lesser numbers, scaled
-sums_bounded : (k : ℕ) (f : Op → ℤ) (g : Op → ℕ) (ops : List Op) → ((op : Op) → (pos k *ℤ f op) ≤ℤ pos (g op)) → (pos k *ℤ sum_over f ops) ≤ℤ pos (sum_by g ops)
-sums_bounded k f g [] h = omega (arith, ints, *ℤ-zero (pos k))
-sums_bounded k f g (op ∷ ops) h =
-    let here = h op in
-    let rest = sums_bounded k f g ops h in
-    omega (arith, ints, here, rest, times_sum (pos k) (f op) (sum_over f ops), sum_by-cons g op ops)
 
 module _ (t : TimedView) (s : Schedule) (timed : IsTimed t) (valid : IsValid t Tasking s) where
   abbrev k : ℕ
@@ -63,20 +56,7 @@ module _ (t : TimedView) (s : Schedule) (timed : IsTimed t) (valid : IsValid t T
   -- a row's value, by operations
   value_of_row : (limit : Limit) (node : ℕ) → row_value (length (columns_of t)) (row_of t limit node) (counts_of t s) ≡ pos k *ℤ sum_over (weight t (cell_of t limit node)) s.ops
   value_of_row limit node =
-      same_sum (length (columns_of t)) _ (λ j. cell_of t limit node (column_at (columns_of t) j) *ℤ pos (counts_of t s j))
-      (λ j l. ap (λ z. z *ℤ pos (counts_of t s j)) (cell_there (cell_of t limit node) (columns_of t) j l))
-      ∙ counts_weigh t (cell_of t limit node) s there
-
-  -- what an operation weighs in a port's row is what it lasts there
-  one_use : (a b : Bool) (c k : ℕ) → (pos k *ℤ where_true a (where_true b (pos c))) ≤ℤ pos (cond b (c * k) 0)
-  one_use true true c k = omega (arith, ints)
-  one_use true false c k = omega (arith, ints, *ℤ-zero (pos k))
-  one_use false true c k = omega (arith, ints, *ℤ-zero (pos k))
-  one_use false false c k = omega (arith, ints, *ℤ-zero (pos k))
-
-  no_use : (a : Bool) (k : ℕ) → (pos k *ℤ where_true a (pos 0)) ≤ℤ pos 0
-  no_use true k = omega (arith, ints, *ℤ-zero (pos k))
-  no_use false k = omega (arith, ints, *ℤ-zero (pos k))
+      row_by_columns (cell_of t limit node) (λ c. operations_in s c * k) (Computes 0) (columns_of t) (side_of limit) ∙ counts_weigh t (cell_of t limit node) s there
 
   abbrev IsKept : Limit → ℕ → Type 0
   IsKept limit node = row_value (length (columns_of t)) (row_of t limit node) (counts_of t s) ≤ℤ (side_of limit *ℤ pos s.length)

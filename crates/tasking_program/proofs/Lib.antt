@@ -1,8 +1,6 @@
-pub mod Listings
 pub mod Weights
 pub mod Feasible
 pub mod Bounded
 pub mod Rates
-pub mod Cells
 pub mod SteadyPoints
 pub mod LookUps

@@ -1,16 +1,14 @@
 -- What the counts of a schedule gain, and why prices bound every rate.
-use Rattle.std.proofs.Common.{◌≡◌, ℕ, ◌*◌, ◌/◌, ◌≤◌, Bool, true, false, cond, List, [], ◌∷◌, length, slice_index_or, All, count_by, Option, Some, None, IsSome, ℤ, pos, ◌*ℤ◌, ◌≤ℤ◌, refl, ap, ◌∙◌, arith}
+use Rattle.std.proofs.Common.{◌≡◌, ℕ, ◌*◌, ◌/◌, ◌≤◌, true, false, cond, List, [], ◌∷◌, length, slice_index_or, All, count_by, Option, Some, None, IsSome, ℤ, pos, ◌*ℤ◌, ◌≤ℤ◌, refl, ap, ◌∙◌, arith}
 use Rattle.std.specs.Option.{is_some}
 use Rattle.std.proofs.Math.IntN.{*ℤ_comm}
 use Rattle.std.proofs.Math.Nat.{mul_assoc, mul_comm, mul-mul-mul_comm, mul-le-mul_left}
 use Rattle.std.proofs.lemmas.Int.{ints}
-use Rattle.std.proofs.lemmas.List.{get_or-map}
 use Rattle.std.proofs.lemmas.List.Sums.{sum_by-cons}
 use Rattle.std.proofs.lemmas.List.Elements.{All-head, All-tail}
 use Rattle.linear_program.specs.Programmes.{gain_value}
 use Rattle.linear_program.specs.Duality.{priced_sides, IsDualFeasible}
 use Rattle.linear_program.proofs.Integers.{times_keeps_order}
-use Rattle.linear_program.proofs.Sums.{same_sum}
 use Rattle.linear_program.proofs.WeakDuality.{weak_duality}
 use Rattle.platform_file.specs.Ticks.{TimedView, IsTimed}
 use Rattle.schedule_model.specs.declared.schedule.Op.{Op}
@@ -21,12 +19,13 @@ use Rattle.schedule_model.specs.Operations.{is_compute}
 use Rattle.schedule_model.specs.Validity.{IsInRange, IsValid, completed}
 use Rattle.schedule_model.specs.Throughput.{IsUpperRate}
 use Rattle.schedule_model.proofs.Durations.{whole_quotient}
+use Rattle.programme_rows.specs.Cells.{where_true}
+use Rattle.programme_rows.proofs.Listings.{sum_over}
+use Rattle.programme_rows.proofs.Weights.{where_nothing, gain_by_columns}
 use Rattle.tasking_program.specs.declared.columns.Column.TheVariants.{Computes}
-use Rattle.tasking_program.specs.Columns.{carries, columns_of, column_at}
-use Rattle.tasking_program.specs.Rows.{where_true}
+use Rattle.tasking_program.specs.Columns.{carries, columns_of}
 use Rattle.tasking_program.specs.Programme.{gain_of, tasking_programme}
-use Rattle.tasking_program.specs.Counts.{counts_of}
-use Rattle.tasking_program.proofs.Listings.{sum_over}
+use Rattle.tasking_program.specs.Counts.{operations_in, counts_of}
 use Rattle.tasking_program.proofs.Weights.{weight, counts_weigh}
 use Rattle.tasking_program.proofs.Feasible.{there, feasible}
 
@@ -42,20 +41,15 @@ computations_gain t (op ∷ ops) range =
     found (Some ticks) some = refl
     found None some = let bad : false ≡ true = some in cc
 
-    free : (b : Bool) → where_true b (pos 0) ≡ pos 0
-    free true = refl
-    free false = refl
-
     one : (op : Op) → IsInRange t Tasking op → weight t gain_of op ≡ pos (cond (is_compute op) 1 0)
-    one (Send link kind start) range = free (carries t link)
+    one (Send link kind start) range = where_nothing (carries t link)
     one (Compute node start) range = found (slice_index_or t.times node None) range
 
 -- the counts gain what the schedule completes
 pub gain_of_counts : (t : TimedView) (s : Schedule) → IsTimed t → IsValid t Tasking s →
     gain_value (tasking_programme t) (counts_of t s) ≡ pos (completed t Tasking s * (s.ticks_per_unit / t.unit))
 gain_of_counts t s timed valid =
-    same_sum (length (columns_of t)) _ (λ j. gain_of (column_at (columns_of t) j) *ℤ pos (counts_of t s j))
-    (λ j l. ap (λ z. z *ℤ pos (counts_of t s j)) (get_or-map gain_of (columns_of t) j (Computes 0) (pos 0) l))
+    gain_by_columns gain_of (λ c. operations_in s c * (s.ticks_per_unit / t.unit)) (Computes 0) (columns_of t) (tasking_programme t).rows
     ∙ counts_weigh t gain_of s (there t s timed valid)
     ∙ ap (λ z. pos (s.ticks_per_unit / t.unit) *ℤ z) (computations_gain t s.ops valid.well_formed.in_range)
     ∙ product (s.ticks_per_unit / t.unit) (completed t Tasking s)

@@ -1,16 +1,12 @@
 -- What the columns of the programme of tasking stand for.
-use Rattle.std.specs.Prelude.{◌≡◌, ◌<◌, ℕ, zero, suc, Bool, true, not, cond, List, [], ◌∷◌, ◌++◌, length, None, slice_index_or}
+use Rattle.std.specs.Prelude.{◌≡◌, ◌<◌, ℕ, Bool, true, not, List, ◌++◌, length, None, slice_index_or}
 use Rattle.std.specs.Option.{is_some}
 use Rattle.platform_file.specs.Platform.{is_master}
 use Rattle.platform_file.specs.Ticks.{TimedView}
 use Rattle.schedule_model.specs.Operations.{receiver_of}
+use Rattle.programme_rows.specs.Listings.{each_where}
 use Rattle.tasking_program.specs.declared.columns.Column.{Column}
 use Rattle.tasking_program.specs.declared.columns.Column.TheVariants.{Computes, Flows}
-
--- the values of a function at the numbers below n that pass, in order
-abbrev pub each_where : {A : Type 0} → (ℕ → Bool) → (ℕ → A) → ℕ → List A
-each_where passes f zero = []
-each_where passes f (suc n) = each_where passes f n ++ cond (passes n) (f n ∷ []) []
 
 -- the node computes
 abbrev pub computes : TimedView → ℕ → Bool

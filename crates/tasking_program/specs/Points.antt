@@ -1,8 +1,10 @@
 -- What the columns' amounts say of ports, processors and supplies, in whole numbers.
-use Rattle.std.specs.Prelude.{◌≡◌, ℕ, zero, suc, ◌+◌, ◌*◌, ◌<◌, ◌≤◌, Bool, true, false, ◌&&◌, cond, nat_eq, List, [], ◌∷◌, length, slice_index_or}
+use Rattle.std.specs.Prelude.{◌≡◌, ℕ, ◌+◌, ◌*◌, ◌<◌, ◌≤◌, Bool, true, false, ◌&&◌, cond, nat_eq, List, length, slice_index_or}
 use Rattle.ratio_core.specs.Fraction.{Fraction, whole}
 use Rattle.platform_file.specs.Platform.{is_master}
 use Rattle.platform_file.specs.Ticks.{TimedView}
+use Rattle.programme_rows.specs.Listings.{total_below}
+use Rattle.programme_rows.specs.LookUps.{value_of}
 use Rattle.schedule_model.specs.Operations.{cost_of, time_of, sender_of, receiver_of}
 use Rattle.tasking_program.specs.declared.columns.Column.{Column}
 use Rattle.tasking_program.specs.declared.columns.Column.TheVariants.{Computes, Flows}
@@ -15,22 +17,11 @@ same_column (Computes node) (Flows link) = false
 same_column (Flows link) (Computes node) = false
 same_column (Flows link) (Flows other) = nat_eq link other
 
--- the value of a column, and 0 where there is none
-abbrev pub look_up : Column → List Column → List Fraction → Fraction
-look_up column [] values = whole 0
-look_up column (one ∷ columns) [] = whole 0
-look_up column (one ∷ columns) (value ∷ values) = cond (same_column column one) value (look_up column columns values)
-
 -- each column of the programme has the value of its number, and what isn't one has none
 pub record AreLookedUp (t : TimedView) : Type 0 where
-  pub there : (values : List Fraction) (j : ℕ) → j < length (columns_of t) → length values ≡ length (columns_of t) → look_up (column_at (columns_of t) j) (columns_of t) values ≡ slice_index_or values j (whole 0)
-  pub no_rate : (values : List Fraction) (node : ℕ) → computes t node ≡ false → look_up (Computes node) (columns_of t) values ≡ whole 0
-  pub no_flow : (values : List Fraction) (link : ℕ) → carries t link ≡ false → look_up (Flows link) (columns_of t) values ≡ whole 0
-
--- the sum of a number over the numbers below n
-abbrev pub total_below : ℕ → (ℕ → ℕ) → ℕ
-total_below zero f = 0
-total_below (suc n) f = total_below n f + f n
+  pub there : (values : List Fraction) (j : ℕ) → j < length (columns_of t) → length values ≡ length (columns_of t) → value_of (same_column (column_at (columns_of t) j)) (columns_of t) values ≡ slice_index_or values j (whole 0)
+  pub no_rate : (values : List Fraction) (node : ℕ) → computes t node ≡ false → value_of (same_column (Computes node)) (columns_of t) values ≡ whole 0
+  pub no_flow : (values : List Fraction) (link : ℕ) → carries t link ≡ false → value_of (same_column (Flows link)) (columns_of t) values ≡ whole 0
 
 -- the amounts of the columns in their order, by what they stand for
 abbrev pub amounts_of : TimedView → (Column → ℕ) → ℕ → ℕ

@@ -1,20 +1,17 @@
 -- The rows of the programme of tasking: how long each port is used in a tick, and what a node gets and passes on.
 -- Source: the steady-state equations of Beaumont, Legrand and Robert.
-use Rattle.std.specs.Prelude.{◌≢◌, ◌<◌, ◌^◌, ℕ, Bool, true, not, ℤ, pos, ◌-ℤ◌, nat_abs, nat_eq, cond, List, length, map, All}
-use Rattle.std.specs.List.Sorted.{IsStrictlyIncreasing}
+use Rattle.std.specs.Prelude.{ℕ, Bool, true, not, ℤ, pos, ◌-ℤ◌, nat_eq, List, length}
 use Rattle.platform_file.specs.Platform.{is_master}
 use Rattle.platform_file.specs.Ticks.{TimedView}
 use Rattle.linear_program.specs.Programmes.{RowView}
+use Rattle.programme_rows.specs.Listings.{each_where}
+use Rattle.programme_rows.specs.Cells.{where_true, cells_of}
 use Rattle.schedule_model.specs.Operations.{cost_of, time_of, sender_of, receiver_of}
 use Rattle.tasking_program.specs.declared.columns.Column.{Column}
 use Rattle.tasking_program.specs.declared.columns.Column.TheVariants.{Computes, Flows}
 use Rattle.tasking_program.specs.declared.rows.Limit.{Limit}
 use Rattle.tasking_program.specs.declared.rows.Limit.TheVariants.{Compute, Send, Receive, Supply}
-use Rattle.tasking_program.specs.Columns.{each_where, computes, columns_of, column_at}
-
--- a number where the test holds, and 0 elsewhere
-abbrev pub where_true : Bool → ℤ → ℤ
-where_true test z = cond test z (pos 0)
+use Rattle.tasking_program.specs.Columns.{computes, columns_of, column_at}
 
 -- by how much a unit of a column counts in a node's row: in ticks of its port or, for its supply, in tasks
 abbrev pub cell_of : TimedView → Limit → ℕ → Column → ℤ
@@ -38,22 +35,10 @@ is_limited t Compute node = computes t node
 is_limited t Supply node = not (is_master t.platform node)
 is_limited t limit node = true
 
--- the cells of a row that are not 0, by their columns
-abbrev pub cells_of : (Column → ℤ) → List Column → List (ℕ × ℤ)
-cells_of cell columns =
-    each_where (λ j. not (nat_eq (nat_abs (cell (column_at columns j))) 0)) (λ j. (j, cell (column_at columns j))) (length columns)
-
 -- a node's row
 abbrev pub row_of : TimedView → Limit → ℕ → RowView
-row_of t limit node = record { cells = cells_of (cell_of t limit node) (columns_of t); rhs = side_of limit }
+row_of t limit node = record { cells = cells_of (λ j. cell_of t limit node (column_at (columns_of t) j)) (length (columns_of t)); rhs = side_of limit }
 
 -- the rows of all nodes that have one
 abbrev pub rows_of : TimedView → Limit → List RowView
 rows_of t limit = each_where (is_limited t limit) (row_of t limit) (length t.platform.nodes)
-
--- cells by ascending columns below a number, none of them 0, in 127 bits
-pub record AreCells (columns : ℕ) (cells : List (ℕ × ℤ)) : Type 0 where
-  pub exist : All (λ c. c.0 < columns) cells
-  pub ascend : IsStrictlyIncreasing (map (λ c. c.0) cells)
-  pub no_zero : All (λ c. c.1 ≢ pos 0) cells
-  pub small : All (λ c. nat_abs c.1 < 2 ^ 127) cells

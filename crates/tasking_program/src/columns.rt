@@ -1,7 +1,8 @@
 //! The columns of the programme.
 
 ghost use Rattle.std.specs.Prelude.{◌≡◌, ◌<◌, ◌≤◌, ◌++◌, All, length, IfOk, OnOk};
-ghost use Rattle.tasking_program.specs.Columns.{each_where, computes, carries, columns_of, Exists};
+ghost use Rattle.programme_rows.specs.Listings.{each_where};
+ghost use Rattle.tasking_program.specs.Columns.{computes, carries, columns_of, Exists};
 
 use listed::{Listed, NoMemory};
 use platform_file::Timed;

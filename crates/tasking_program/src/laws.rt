@@ -8,11 +8,12 @@ ghost use Rattle.schedule_model.specs.Validity.{IsValid, completed};
 ghost use Rattle.schedule_model.specs.Throughput.{IsUpperRate};
 ghost use Rattle.linear_program.specs.Programmes.{gain_value};
 ghost use Rattle.linear_program.specs.Duality.{priced_sides, IsFeasible, IsDualFeasible, IsBounded};
+ghost use Rattle.programme_rows.specs.Listings.{total_below};
 ghost use Rattle.tasking_program.specs.Columns.{computes};
 ghost use Rattle.tasking_program.specs.Programme.{tasking_programme};
 ghost use Rattle.tasking_program.specs.Counts.{counts_of};
 ghost use Rattle.tasking_program.specs.declared.columns.Column.{Column};
-ghost use Rattle.tasking_program.specs.Points.{total_below, amounts_of, AreLookedUp, IsSteady};
+ghost use Rattle.tasking_program.specs.Points.{amounts_of, AreLookedUp, IsSteady};
 
 /// The counts of every schedule that a platform can carry out, over its length, are a feasible point of the programme, and its gain is
 /// what the schedule completes. A schedule of no tick completes nothing, since a feasible direction can't gain.

@@ -2,13 +2,15 @@
 
 ghost use Rattle.std.specs.Prelude.{◌≡◌, ◌<◌, ◌≤◌, ◌^◌, ◌++◌, ◌⊎◌, All, length, nat_abs, pos, IfOk, OnOk};
 ghost use Rattle.linear_program.specs.Programmes.{IsRow};
+ghost use Rattle.programme_rows.specs.Cells.{cells_of, AreCells};
 ghost use Rattle.tasking_program.specs.Columns.{columns_of, column_at, Exists};
-ghost use Rattle.tasking_program.specs.Rows.{where_true, cell_of, side_of, is_limited, cells_of, row_of, rows_of, AreCells};
+ghost use Rattle.tasking_program.specs.Rows.{cell_of, side_of, is_limited, row_of, rows_of};
 
 use crate::columns::{Column, computes};
 use linear_program::Row;
 use listed::{Listed, NoMemory};
 use platform_file::Timed;
+use programme_rows::{push_cell, where_true};
 use std::alloc::Global;
 
 /// What a row keeps within bounds at a node.
@@ -22,13 +24,6 @@ pub enum Limit {
     Receive,
     /// It sends and computes no more tasks than it receives.
     Supply,
-}
-
-/// A number where a test holds, and 0 elsewhere.
-fn where_true(test: bool, number: u64) -> i128
-    ensures { result ≡ where_true test (pos number) }
-{
-    if test { i128::from(number) } else { 0 }
 }
 
 /// By how much a node's rate counts in a node's row.
@@ -103,15 +98,13 @@ fn cells_of(
 ) -> Result<Listed<(u32, i128)>, NoMemory>
     requires exist { All (Exists timed.now) columns.now }
     requires few { length columns.now ≤ 160 }
-    ensures value { IfOk result (λ cells. cells ≡ cells_of (cell_of timed.now limit node) columns.now) }
+    ensures value { IfOk result (λ cells. cells ≡ cells_of (λ j. cell_of timed.now limit node (column_at columns.now j)) (length columns.now)) }
     ensures cells { IfOk result (AreCells (length columns.now)) }
 {
     let mut cells = Listed::new(alloc);
     for column in 0..columns.len() as u32 {
         let cell = cell_of(timed, limit, node, columns[column as usize]);
-        if cell != 0 {
-            cells.push((column, cell))?;
-        }
+        push_cell(&mut cells, column, cell)?;
     }
     Ok(cells)
 }

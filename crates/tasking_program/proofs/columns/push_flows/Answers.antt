@@ -1,7 +1,7 @@
 use Rattle.std.proofs.Common.{rules, ◌≡◌, true, false}
 use Rattle.tasking_program.specs.declared.columns.Column.TheVariants.{Flows}
 use Rattle.tasking_program.specs.Columns.{carries}
-use Rattle.tasking_program.proofs.Listings.{pushed}
+use Rattle.programme_rows.proofs.Listings.{pushed}
 use Rattle.tasking_program.proofs.columns.push_flows.Goals.{then-carries+in_ok-push, else-carries}
 use Rattle.tasking_program.proofs.columns.push_flows.Goals as goal
 

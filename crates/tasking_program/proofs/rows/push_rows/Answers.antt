@@ -2,7 +2,7 @@ use Rattle.std.proofs.Common.{rules, ◌≡◌, ◌++◌, [], ◌∷◌, true, f
 use Rattle.std.proofs.lemmas.List.Elements.{All-push}
 use Rattle.linear_program.specs.Programmes.{IsRow}
 use Rattle.tasking_program.specs.Rows.{is_limited, row_of}
-use Rattle.tasking_program.proofs.Listings.{pushed}
+use Rattle.programme_rows.proofs.Listings.{pushed}
 use Rattle.tasking_program.proofs.rows.push_rows.Goals.{then-is_limited+in_ok-row_of+in_ok-push, else-is_limited}
 use Rattle.tasking_program.proofs.rows.push_rows.Goals as goal
 

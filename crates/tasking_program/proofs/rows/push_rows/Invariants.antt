@@ -1,6 +1,6 @@
 use Rattle.std.proofs.Common.{◌≡◌, ◌++◌, length, All}
 use Rattle.linear_program.specs.Programmes.{IsRow}
-use Rattle.tasking_program.specs.Columns.{each_where}
+use Rattle.programme_rows.specs.Listings.{each_where}
 use Rattle.tasking_program.specs.Rows.{is_limited, row_of}
 use Rattle.tasking_program.proofs.rows.push_rows.Given as goal
 
