@@ -8,7 +8,7 @@ use Rattle.linear_program.specs.declared.certificate.Optimum.{Optimum}
 use Rattle.exact_simplex.specs.Optima.{IsOptimal}
 use Rattle.platform_file.specs.Ticks.{TimedView}
 use Rattle.tasking_program.specs.Programme.{tasking_programme}
-use Rattle.planner.specs.Points.{IsPoint}
+use Rattle.series_flows.specs.Points.{IsPoint}
 use Rattle.planner.specs.Prices.{IsBestCertificate}
 use Rattle.planner.proofs.Rated.{best_rate}
 

@@ -15,7 +15,7 @@ use Rattle.programme_rows.specs.Listings.{total_below}
 use Rattle.tasking_program.specs.declared.columns.Column.TheVariants.{Computes, Flows}
 use Rattle.tasking_program.specs.Columns.{computes, carries}
 use Rattle.tasking_program.specs.Points.{over_links, AreLookedUp, IsSteady}
-use Rattle.planner.specs.Flows.{tasks_in, amount_in, ends_of, flow_of}
+use Rattle.series_flows.specs.Flows.{tasks_in, amount_in, ends_of, flow_of}
 use Rattle.planner.proofs.Terms.{length_terms, term_there}
 
 first_total : (n : ℕ) (f : ℕ → ℕ) → total_below (suc n) f ≡ f 0 + total_below n (λ k. f (suc k))

@@ -14,7 +14,7 @@ use Rattle.tasking_program.specs.declared.columns.Column.{Column}
 use Rattle.tasking_program.specs.declared.columns.Column.TheVariants.{Computes, Flows}
 use Rattle.tasking_program.specs.Columns.{computes, carries, columns_of, column_at, Exists}
 use Rattle.tasking_program.specs.Points.{AreLookedUp, IsSteady}
-use Rattle.planner.specs.Flows.{tasks_in, amount_in}
+use Rattle.series_flows.specs.Flows.{tasks_in, amount_in}
 use Rattle.planner.proofs.Terms.{true_or_false}
 use Rattle.planner.proofs.FlowsKept.{unused, sender_inside}
 

@@ -29,9 +29,9 @@ use Rattle.planner.specs.declared.numbers.Scale.{Scale}
 use Rattle.planner.specs.declared.numbers.TableFault.{TableFault}
 use Rattle.planner.specs.declared.numbers.TableFault.TheVariants.{Period}
 use Rattle.planner.specs.Numbers.{common_denominator, costs_over, with_cost, common_cost, product_of, and_then, scale_of}
-use Rattle.planner.specs.Flows.{tasks_in, amount_in, ends_of, flow_of}
+use Rattle.series_flows.specs.Flows.{tasks_in, amount_in, ends_of, flow_of}
 use Rattle.planner.specs.Loads.{weights_of}
-use Rattle.planner.specs.Points.{IsPoint}
+use Rattle.series_flows.specs.Points.{IsPoint}
 use Rattle.planner.specs.Solutions.{IsRouteOf, IsSolution}
 use Rattle.planner.proofs.Terms.{true_or_false, term_there}
 use Rattle.planner.proofs.FlowsKept.{same_total, idle}

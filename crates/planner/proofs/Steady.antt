@@ -16,8 +16,8 @@ use Rattle.planner.specs.declared.numbers.PeriodStep.{PeriodStep}
 use Rattle.planner.specs.declared.numbers.TableFault.{TableFault}
 use Rattle.planner.specs.declared.numbers.TableFault.TheVariants.{Period}
 use Rattle.planner.specs.Numbers.{multiple_of}
-use Rattle.planner.specs.Flows.{amount_in}
-use Rattle.planner.specs.Points.{IsPoint}
+use Rattle.series_flows.specs.Flows.{amount_in}
+use Rattle.series_flows.specs.Points.{IsPoint}
 use Rattle.planner.proofs.Terms.{true_or_false}
 use Rattle.planner.proofs.Scaled.{scaled_feasible, scaled_gain}
 

@@ -18,7 +18,7 @@ use Rattle.period_table.specs.Tables.{first_node, nodes_on, IsWalk}
 use Rattle.tasking_program.specs.Columns.{computes}
 use Rattle.tasking_program.specs.declared.columns.Column.TheVariants.{Computes}
 use Rattle.tasking_program.specs.Points.{AreLookedUp, IsSteady}
-use Rattle.planner.specs.Flows.{amount_in, flow_of, ends_of}
+use Rattle.series_flows.specs.Flows.{amount_in, flow_of, ends_of}
 use Rattle.planner.specs.Solutions.{IsRouteOf}
 use Rattle.planner.proofs.Terms.{true_or_false, term_there}
 use Rattle.planner.proofs.FlowsKept.{ends_at, idle, sender_inside, receiver_inside}

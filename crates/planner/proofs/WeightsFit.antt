@@ -20,7 +20,7 @@ use Rattle.programme_rows.specs.Listings.{total_below}
 use Rattle.tasking_program.specs.declared.columns.Column.TheVariants.{Flows}
 use Rattle.tasking_program.specs.Columns.{carries}
 use Rattle.tasking_program.specs.Points.{over_links, AreLookedUp, IsSteady}
-use Rattle.planner.specs.Flows.{amount_in}
+use Rattle.series_flows.specs.Flows.{amount_in}
 use Rattle.planner.specs.Loads.{edge_of, weights_of}
 use Rattle.planner.proofs.Terms.{length_terms, term_there}
 use Rattle.planner.proofs.FlowsKept.{unused, sender_inside, receiver_inside}

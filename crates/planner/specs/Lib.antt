@@ -1,11 +1,7 @@
-pub mod Programmes
-pub mod Flows
 pub mod Numbers
 pub mod Prices
 pub mod Loads
 pub mod Scales
-pub mod Points
-pub mod Amounts
 pub mod Routings
 pub mod Solutions
 pub mod Making

@@ -12,8 +12,8 @@ use Rattle.period_table.specs.Tables.{longest}
 use Rattle.period_table.specs.declared.table.Table.{Table}
 use Rattle.planner.specs.declared.numbers.Scale.{Scale}
 use Rattle.planner.specs.Numbers.{scale_of}
-use Rattle.planner.specs.Programmes.{kinds_of}
-use Rattle.planner.specs.Flows.{flow_of}
+use Rattle.series_flows.specs.Programmes.{kinds_of}
+use Rattle.series_flows.specs.Flows.{flow_of}
 use Rattle.planner.specs.Routings.{tasks_of_kind, AreRoutesBelow}
 use Rattle.planner.specs.Loads.{weights_of}
 use Rattle.planner.specs.Scales.{common_factor, scaled_route, scaled_part}

@@ -13,8 +13,8 @@ use Rattle.planner.specs.declared.numbers.Scale.{Scale}
 use Rattle.planner.specs.declared.numbers.TableFault.{TableFault}
 use Rattle.planner.specs.declared.numbers.TableFault.TheVariants.{Period}
 use Rattle.flow_routes.specs.declared.flow.Flow.{Flow}
-use Rattle.planner.specs.Programmes.{kinds_of}
-use Rattle.planner.specs.Flows.{flow_rate}
+use Rattle.series_flows.specs.Programmes.{kinds_of}
+use Rattle.series_flows.specs.Flows.{flow_rate}
 
 -- the least common multiple of what stands so far and of the numbers that follow, in their order; the first number that makes it exceed 2^100 ends it
 abbrev pub multiple_of : PeriodStep → ℕ → List ℕ → Result ℕ TableFault

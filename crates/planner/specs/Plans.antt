@@ -14,7 +14,7 @@ use Rattle.planner.specs.declared.numbers.Scale.{Scale}
 use Rattle.planner.specs.declared.numbers.TableFault.{TableFault}
 use Rattle.planner.specs.declared.numbers.TableFault.TheVariants as table
 use Rattle.planner.specs.declared.planned.Plan.{Plan}
-use Rattle.planner.specs.Programmes.{programme_of, lacks_targets}
+use Rattle.series_flows.specs.Programmes.{programme_of, lacks_targets}
 use Rattle.planner.specs.Numbers.{scale_of}
 use Rattle.planner.specs.Making.{IsTableOf}
 

@@ -7,8 +7,8 @@ use Rattle.linear_program.specs.Programmes.{gain_value}
 use Rattle.linear_program.specs.Duality.{priced_sides, IsDualFeasible}
 use Rattle.linear_program.specs.declared.certificate.Optimum.{Optimum}
 use Rattle.planner.specs.declared.fault.PlanFault.{PlanFault}
-use Rattle.planner.specs.Programmes.{programme_of}
-use Rattle.planner.specs.Points.{IsPoint}
+use Rattle.series_flows.specs.Programmes.{programme_of}
+use Rattle.series_flows.specs.Points.{IsPoint}
 use Rattle.planner.specs.Plans.{solution_of}
 
 -- the certificate of a solution

@@ -3,7 +3,7 @@
 ghost use Rattle.std.specs.Prelude.{◌≡◌, ◌≢◌, Some, IfOk, IfErr};
 ghost use Rattle.period_table.specs.Best.{IsBest};
 ghost use Rattle.exact_simplex.specs.Optima.{IsOptimal};
-ghost use Rattle.planner.specs.Programmes.{programme_of};
+ghost use Rattle.series_flows.specs.Programmes.{programme_of};
 ghost use Rattle.planner.specs.Plans.{fault_of, IsPlan};
 
 use crate::fault::PlanFault;

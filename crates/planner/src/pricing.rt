@@ -7,7 +7,7 @@ ghost use Rattle.linear_program.specs.Starts.{start_tableau};
 ghost use Rattle.exact_simplex.specs.Answers.{answer_of};
 ghost use Rattle.exact_simplex.specs.Bland.{bland_run};
 ghost use Rattle.exact_simplex.specs.Optima.{IsOptimal};
-ghost use Rattle.planner.specs.Programmes.{programme_of, lacks_targets};
+ghost use Rattle.series_flows.specs.Programmes.{programme_of, lacks_targets};
 ghost use Rattle.planner.specs.Plans.{solution_of};
 ghost use Rattle.planner.specs.Prices.{prices_of, IsBestCertificate};
 

@@ -3,10 +3,10 @@
 ghost use Rattle.std.specs.Prelude.{◌≡◌, ℕ, ◌<◌, ◌≤◌, ◌++◌, ◌⊎◌, All, length, Err, IfOk, IfErr, OnOk};
 ghost use Rattle.exact_simplex.specs.Optima.{first_terms};
 ghost use Rattle.flow_routes.specs.Flows.{IsFlow};
-ghost use Rattle.planner.specs.Programmes.{lacks_targets, kinds_of};
-ghost use Rattle.planner.specs.Flows.{flow_of};
+ghost use Rattle.series_flows.specs.Programmes.{lacks_targets, kinds_of};
+ghost use Rattle.series_flows.specs.Flows.{flow_of};
 ghost use Rattle.planner.specs.Numbers.{scale_of};
-ghost use Rattle.planner.specs.Points.{IsPoint};
+ghost use Rattle.series_flows.specs.Points.{IsPoint};
 ghost use Rattle.planner.specs.Routings.{AreRoutesBelow};
 ghost use Rattle.planner.specs.Solutions.{IsRouting};
 ghost use Rattle.planner.specs.Making.{IsRoutedIn};

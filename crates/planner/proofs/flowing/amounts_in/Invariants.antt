@@ -2,7 +2,7 @@ use Rattle.std.proofs.Common.{◌≡◌, ℕ, ◌<◌, drop, get_or, length}
 use Rattle.programme_rows.specs.LookUps.{value_of}
 use Rattle.tasking_program.specs.declared.columns.Column.TheVariants.{Computes, Flows}
 use Rattle.tasking_program.specs.Points.{same_column}
-use Rattle.planner.specs.Flows.{tasks_in}
+use Rattle.series_flows.specs.Flows.{tasks_in}
 use Rattle.planner.proofs.flowing.amounts_in.Given as goal
 
 abbrev pub invariant-loop-k : goal.invariant-loop-k

@@ -2,7 +2,7 @@ use Rattle.std.proofs.Common.{◌≡◌, length, slice_index, refl, ap, ◌∙�
 use Rattle.platform_file.specs.Platform.{PlatformView}
 use Rattle.exact_simplex.specs.Optima.{first_terms}
 use Rattle.tasking_program.specs.declared.columns.Column.TheVariants.{Computes, Flows}
-use Rattle.planner.specs.Flows.{amount_in}
+use Rattle.series_flows.specs.Flows.{amount_in}
 use Rattle.planner.proofs.Terms.{same_terms}
 use Rattle.planner.proofs.flowing.flow_of.Goals as goal
 

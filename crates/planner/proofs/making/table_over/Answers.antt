@@ -8,7 +8,7 @@ use Rattle.bipartite_slots.specs.Parts.{AreParts}
 use Rattle.tasking_program.specs.Columns.{columns_of}
 use Rattle.tasking_program.specs.Programme.{tasking_programme}
 use Rattle.planner.specs.Numbers.{scale_of}
-use Rattle.planner.specs.Flows.{amount_in, flow_of}
+use Rattle.series_flows.specs.Flows.{amount_in, flow_of}
 use Rattle.planner.specs.Scales.{common_factor}
 use Rattle.planner.specs.Loads.{weights_of}
 use Rattle.planner.specs.Making.{table_with}

@@ -4,7 +4,7 @@ use Rattle.ratio_core.specs.Fraction.{Fraction, whole}
 use Rattle.platform_file.specs.Ticks.{TimedView}
 use Rattle.schedule_model.specs.declared.schedule.Series.{Series}
 use Rattle.linear_program.specs.Duality.{IsFeasible}
-use Rattle.planner.specs.Programmes.{programme_of}
+use Rattle.series_flows.specs.Programmes.{programme_of}
 
 -- one value for each column, which is that of a feasible point over its denominator
 pub record IsPoint (t : TimedView) (series : Series) (values : List Fraction) : Type 0 where

@@ -8,7 +8,7 @@ use Rattle.schedule_model.specs.declared.schedule.Series.TheVariants.{Tasking, S
 use Rattle.programme_rows.specs.Listings.{total_below}
 use Rattle.tasking_program.specs.Columns.{computes}
 use Rattle.scatter_program.specs.Columns.{target_of}
-use Rattle.planner.specs.Programmes.{kinds_of}
+use Rattle.series_flows.specs.Programmes.{kinds_of}
 
 -- what a number comes to over the links that pass a test
 abbrev pub over : TimedView → (ℕ → Bool) → (ℕ → ℕ) → ℕ

@@ -5,9 +5,9 @@ ghost use Rattle.platform_file.specs.Ticks.{TimedView, IsTimed};
 ghost use Rattle.schedule_model.specs.declared.schedule.Series.{Series};
 ghost use Rattle.schedule_model.specs.Throughput.{IsUpperRate};
 ghost use Rattle.linear_program.specs.Duality.{priced_sides, IsDualFeasible, IsBounded};
-ghost use Rattle.planner.specs.Programmes.{programme_of, lacks_targets};
+ghost use Rattle.series_flows.specs.Programmes.{programme_of, lacks_targets};
 
-use crate::fault::PlanFault;
+use crate::fault::ProgrammeFault;
 use linear_program::Lp;
 use platform_file::Timed;
 use scatter_program::prices_bound_rates as message_prices_bound_rates;
@@ -38,14 +38,14 @@ pub fn prices_bound_rates()
 /// # Errors
 ///
 /// `NoTargets` where the series is a scatter and the platform has no target, `NoMemory` where memory runs out.
-pub fn programme_of(alloc: Global, timed: &Timed, series: Series) -> Result<Lp, PlanFault>
+pub fn programme_of(alloc: Global, timed: &Timed, series: Series) -> Result<Lp, ProgrammeFault>
     ensures programme { IfOk result (λ lp. lp ≡ programme_of timed.now series) }
     ensures some_target { IfOk result (λ _. lacks_targets timed.now series ≡ false) }
-    ensures fault { IfErr result (λ fault. fault ≢ PlanFault.NoMemory → (fault ≡ PlanFault.NoTargets) × (lacks_targets timed.now series ≡ true)) }
+    ensures fault { IfErr result (λ fault. fault ≢ ProgrammeFault.NoMemory → (fault ≡ ProgrammeFault.NoTargets) × (lacks_targets timed.now series ≡ true)) }
 {
     match series {
         Series::Tasking => Ok(tasking_lp(alloc, timed)?),
-        Series::Scatter if timed.platform().targets().is_empty() => Err(PlanFault::NoTargets),
+        Series::Scatter if timed.platform().targets().is_empty() => Err(ProgrammeFault::NoTargets),
         Series::Scatter => Ok(scatter_lp(alloc, timed)?),
     }
 }

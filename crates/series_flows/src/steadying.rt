@@ -6,10 +6,10 @@ ghost use Rattle.platform_file.specs.Ticks.{TimedView, IsTimed};
 ghost use Rattle.schedule_model.specs.declared.schedule.Series.{Series};
 ghost use Rattle.linear_program.specs.Programmes.{gain_value};
 ghost use Rattle.programme_rows.specs.Listings.{total_below};
-ghost use Rattle.planner.specs.Programmes.{programme_of, lacks_targets};
-ghost use Rattle.planner.specs.Flows.{tasks_in, flow_in, use_in};
-ghost use Rattle.planner.specs.Points.{IsPoint};
-ghost use Rattle.planner.specs.Amounts.{AreAmounts};
+ghost use Rattle.series_flows.specs.Programmes.{programme_of, lacks_targets};
+ghost use Rattle.series_flows.specs.Flows.{tasks_in, flow_in, use_in};
+ghost use Rattle.series_flows.specs.Points.{IsPoint};
+ghost use Rattle.series_flows.specs.Amounts.{AreAmounts};
 
 use scatter_program::columns_are_looked_up as messages_are_looked_up;
 use scatter_program::points_are_steady as message_points_are_steady;
@@ -18,7 +18,7 @@ use tasking_program::points_are_steady as task_points_are_steady;
 
 /// In as many ticks as make its values whole, a solution has amounts of which routes and slots can be made; none of its numbers exceeds
 /// the ticks, and what the nodes use of the first kind is what it gains.
-pub(crate) fn points_are_amounts()
+pub fn points_are_amounts()
     ensures amounts { (t : TimedView) (series : Series) (values : List Fraction) (ticks : ℕ) → IsTimed t → lacks_targets t series ≡ false
         → IsPoint t series values → All (λ value. ticks % value.den ≡ 0) values
         → AreAmounts t series (flow_in t series values ticks) (use_in t series values ticks) ticks }

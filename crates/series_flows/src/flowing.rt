@@ -9,8 +9,8 @@ ghost use Rattle.tasking_program.specs.Points.{same_column as same_task_column};
 ghost use Rattle.scatter_program.specs.Columns.{target_of, columns_of as message_columns, Exists as ExistsForMessages};
 ghost use Rattle.scatter_program.specs.Points.{same_column as same_message_column};
 ghost use Rattle.schedule_model.specs.declared.schedule.Series.TheVariants.{Tasking, Scatter};
-ghost use Rattle.planner.specs.Programmes.{programme_of, kinds_of};
-ghost use Rattle.planner.specs.Flows.{tasks_in, ends_of, flow_with, flow_of};
+ghost use Rattle.series_flows.specs.Programmes.{programme_of, kinds_of};
+ghost use Rattle.series_flows.specs.Flows.{tasks_in, ends_of, flow_with, flow_of};
 
 use flow_routes::Flow;
 use listed::{Listed, NoMemory};
@@ -169,7 +169,7 @@ fn message_flows(
 }
 
 /// The flow of each kind of a solution in so many ticks.
-pub(crate) fn flows_of(
+pub fn flows_of(
     alloc: Global,
     timed: &Timed,
     series: Series,

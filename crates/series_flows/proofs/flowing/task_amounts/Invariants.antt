@@ -1,0 +1,14 @@
+use Rattle.std.proofs.Common.{◌≡◌, ℕ, ◌<◌, drop, get_or, length}
+use Rattle.programme_rows.specs.LookUps.{value_of}
+use Rattle.tasking_program.specs.declared.columns.Column.TheVariants.{Computes, Flows}
+use Rattle.tasking_program.specs.Points.{same_column}
+use Rattle.series_flows.specs.Flows.{tasks_in}
+use Rattle.series_flows.proofs.flowing.task_amounts.Given as goal
+
+abbrev pub invariant-loop-k : goal.invariant-loop-k
+invariant-loop-k l = record {
+  nodes : length l.uses ≡ 32;
+  links : length l.flows ≡ 128;
+  uses : (node : ℕ) → node < 32 → get_or l.uses node 0 ≡ tasks_in l.ticks (value_of (same_column (Computes node)) (drop l.k l.columns) (drop l.k l.values));
+  flows : (link : ℕ) → link < 128 → get_or l.flows link 0 ≡ tasks_in l.ticks (value_of (same_column (Flows link)) (drop l.k l.columns) (drop l.k l.values));
+}

@@ -1,0 +1,4 @@
+pub mod Programmes
+pub mod Flows
+pub mod Points
+pub mod Amounts
