@@ -25,13 +25,13 @@ MayUse t Scatter kind node = node ≡ target_of t kind
 
 -- each processor has time for its tasks, and each target gets as many messages as the first one
 abbrev pub AreInUse : TimedView → Series → (ℕ → ℕ → ℕ) → ℕ → Type 0
-AreInUse t Tasking use ticks = (node : ℕ) → node < length t.platform.nodes → use 0 node * time_of t node ≤ ticks
-AreInUse t Scatter use ticks =
-    (kind : ℕ) → kind < length t.platform.targets → total_below (length t.platform.nodes) (use kind) ≡ total_below (length t.platform.nodes) (use 0)
+AreInUse t Tasking uses ticks = (node : ℕ) → node < length t.platform.nodes → uses 0 node * time_of t node ≤ ticks
+AreInUse t Scatter uses ticks =
+    (kind : ℕ) → kind < length t.platform.targets → total_below (length t.platform.nodes) (uses kind) ≡ total_below (length t.platform.nodes) (uses 0)
 
 -- in so many ticks each port has time for what its links carry, no node but the master passes on and uses more of a kind than it gets,
 -- and what is used is little, slow, and used where it may be
-pub record AreAmounts (t : TimedView) (series : Series) (flow use : ℕ → ℕ → ℕ) (ticks : ℕ) : Type 0 where
+pub record AreAmounts (t : TimedView) (series : Series) (flow uses : ℕ → ℕ → ℕ) (ticks : ℕ) : Type 0 where
   pub some_kind : 1 ≤ kinds_of t series
   pub few_kinds : kinds_of t series ≤ 8
   pub senders : (node : ℕ) → node < length t.platform.nodes →
@@ -39,8 +39,8 @@ pub record AreAmounts (t : TimedView) (series : Series) (flow use : ℕ → ℕ 
   pub receivers : (node : ℕ) → node < length t.platform.nodes →
       over t (λ link. nat_eq (receiver_of t link) node) (λ link. cost_of t link * over_kinds (kinds_of t series) flow link) ≤ ticks
   pub supplies : (kind node : ℕ) → kind < kinds_of t series → node < length t.platform.nodes → is_master t.platform node ≡ false →
-      use kind node + over t (λ link. nat_eq (sender_of t link) node) (flow kind) ≤ over t (λ link. nat_eq (receiver_of t link) node) (flow kind)
-  pub may_use : (kind node : ℕ) → kind < kinds_of t series → node < length t.platform.nodes → 1 ≤ use kind node → MayUse t series kind node
-  pub little : (kind node : ℕ) → kind < kinds_of t series → node < length t.platform.nodes → use kind node ≤ ticks
-  pub slow : (kind node : ℕ) → kind < kinds_of t series → node < length t.platform.nodes → use kind node * t.unit ≤ 2000000 * ticks
-  pub used : AreInUse t series use ticks
+      uses kind node + over t (λ link. nat_eq (sender_of t link) node) (flow kind) ≤ over t (λ link. nat_eq (receiver_of t link) node) (flow kind)
+  pub may_use : (kind node : ℕ) → kind < kinds_of t series → node < length t.platform.nodes → 1 ≤ uses kind node → MayUse t series kind node
+  pub little : (kind node : ℕ) → kind < kinds_of t series → node < length t.platform.nodes → uses kind node ≤ ticks
+  pub slow : (kind node : ℕ) → kind < kinds_of t series → node < length t.platform.nodes → uses kind node * t.unit ≤ 2000000 * ticks
+  pub used : AreInUse t series uses ticks

@@ -43,12 +43,12 @@ ends_of link = (link.from, link.to)
 
 -- the flow of what the links carry and the nodes use
 abbrev pub flow_with : TimedView → (ℕ → ℕ) → (ℕ → ℕ) → Flow
-flow_with t flow use = record {
+flow_with t flow uses = record {
   nodes = length t.platform.nodes;
   master = master_of t.platform;
   links = map ends_of t.platform.links;
   amounts = first_terms flow (length t.platform.links);
-  demands = first_terms use (length t.platform.nodes);
+  demands = first_terms uses (length t.platform.nodes);
 }
 
 -- the flow of a kind of a solution in so many ticks
