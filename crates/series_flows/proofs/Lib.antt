@@ -1,2 +1,4 @@
 pub mod Terms
 pub mod Scaled
+pub mod Targets
+pub mod SameFlows
