@@ -7,7 +7,6 @@ use Rattle.std.proofs.lemmas.List.Elements.{All-get_or}
 use Rattle.std.proofs.lemmas.List.Sums.{sum_by_more_le}
 use Rattle.std.proofs.lemmas.Map.Keys.{IsDistinct-head}
 use Rattle.std.proofs.lemmas.Map.Steps.{length-le_from_distinct_below}
-use Rattle.ratio_core.specs.Fraction.{Fraction}
 use Rattle.platform_file.specs.Platform.{master_of}
 use Rattle.platform_file.specs.Ticks.{TimedView, IsTimed}
 use Rattle.schedule_model.specs.Operations.{sender_of, receiver_of}
@@ -20,10 +19,9 @@ use Rattle.tasking_program.specs.declared.columns.Column.TheVariants.{Computes}
 use Rattle.tasking_program.specs.Points.{AreLookedUp, IsSteady}
 use Rattle.series_flows.specs.Flows.{amount_in, flow_of, ends_of}
 use Rattle.planner.specs.Solutions.{IsRouteOf}
-use Rattle.planner.proofs.Terms.{true_or_false, term_there}
-use Rattle.planner.proofs.FlowsKept.{ends_at, idle, sender_inside, receiver_inside}
+use Rattle.series_flows.proofs.Terms.{true_or_false, term_there}
+use Rattle.planner.proofs.FlowsKept.{ends, ends_at, sender_inside, receiver_inside}
 use Rattle.planner.proofs.LanesCarry.{turned}
-use Rattle.planner.proofs.Small.{rate_small}
 
 -- what a test finds in a list is bounded with the list
 found_below : (n : ℕ) (xs : List ℕ) → AllByRecursion (λ x. x < n) xs → (q : ℕ) → list_any (nat_eq q) xs ≡ true → q < n
@@ -36,18 +34,18 @@ found_below n (x ∷ xs) all q e =
 
 -- ---- in the words of the platform
 
-module _ (t : TimedView) (values : List Fraction) (ticks : ℕ) (looked : AreLookedUp t) where
+module _ (t : TimedView) where
   abbrev links : List (ℕ × ℕ)
-  links = (flow_of t values ticks).links
+  links = ends t
 
   inside : (k : ℕ) → k < length links → k < length t.platform.links
   inside k l = rw (length-map t.platform.links ends_of) at l
 
   sender : (k : ℕ) → k < length links → (link_at links k).0 ≡ sender_of t k
-  sender k l = ap (λ (pair : ℕ × ℕ). pair.0) (ends_at t values ticks looked k (inside k l))
+  sender k l = ap (λ (pair : ℕ × ℕ). pair.0) (ends_at t k (inside k l))
 
   receiver : (k : ℕ) → k < length links → (link_at links k).1 ≡ receiver_of t k
-  receiver k l = ap (λ (pair : ℕ × ℕ). pair.1) (ends_at t values ticks looked k (inside k l))
+  receiver k l = ap (λ (pair : ℕ × ℕ). pair.1) (ends_at t k (inside k l))
 
   same_first : (ks : List ℕ) (end : ℕ) → IsFlowWalk links ks end → first_of links ks end ≡ first_node t ks end
   same_first [] end walk = refl
@@ -85,7 +83,7 @@ module _ (t : TimedView) (values : List Fraction) (ticks : ℕ) (looked : AreLoo
   simple_away (k ∷ ks) end first simple =
       subst (λ node. AllByRecursion (λ other. nat_eq node other ≡ false) (nodes_on t ks end)) first (IsDistinct-head nat_eq (sender_of t k) (nodes_on t ks end) simple)
 
-  module _ (timed : IsTimed t) (steady : IsSteady t (amount_in t values ticks) ticks) where
+  module _ (timed : IsTimed t) where
     abbrev Inside : ℕ → Type 0
     Inside node = node < length t.platform.nodes
 
@@ -93,78 +91,69 @@ module _ (t : TimedView) (values : List Fraction) (ticks : ℕ) (looked : AreLoo
     end_inside : (ks : List ℕ) (end : ℕ) → IsWalk t ks end → Inside (first_node t ks end) → Inside end
     end_inside [] end walk first = first
     end_inside (k ∷ ks) end walk first =
-        end_inside ks end walk.3 (subst Inside walk.1 (receiver_inside t values ticks looked timed steady k walk.0))
+        end_inside ks end walk.3 (subst Inside walk.1 (receiver_inside t timed k walk.0))
 
     nodes_inside : (ks : List ℕ) (end : ℕ) → IsWalk t ks end → Inside end → AllByRecursion Inside (nodes_on t ks end)
     nodes_inside [] end walk last = (last, tt)
-    nodes_inside (k ∷ ks) end walk last = (sender_inside t values ticks looked timed steady k walk.0, nodes_inside ks end walk.3 last)
+    nodes_inside (k ∷ ks) end walk last = (sender_inside t timed k walk.0, nodes_inside ks end walk.3 last)
 
     count_nodes : (ks : List ℕ) (end : ℕ) → length (nodes_on t ks end) ≡ suc (length ks)
     count_nodes [] end = refl
     count_nodes (k ∷ ks) end = ap suc (count_nodes ks end)
 
-    module _ (routes : List Route) (are : AreRoutes (flow_of t values ticks) 0 routes) where
-      -- the tasks that come to an end at a node are those of its rate
-      pub comes_to : (node : ℕ) → node < length t.platform.nodes → brought node routes ≡ amount_in t values ticks (Computes node)
-      comes_to node l = are.met node l ∙ term_there (λ n. amount_in t values ticks (Computes n)) 0 (length t.platform.nodes) node l
+    module _ (series : Series) (flow uses : ℕ → ℕ → ℕ) (ticks : ℕ) (amounts : AreAmounts t series flow uses ticks) (kind : ℕ) (known : kind < kinds_of t series) where
+      -- what may be used at the end of a route ends it well
+      ends_well : (series : Series) (route : Route) → kind < kinds_of t series → route.kind ≡ kind → MayUse t series kind route.end → EndsWell t series route
+      ends_well Tasking route below same computed = (omega (arith, below, same), computed)
+      ends_well Scatter route below same target = (rw same below, rw same target)
 
-      pub rate_bounded : (node : ℕ) → node < length t.platform.nodes → amount_in t values ticks (Computes node) ≤ ticks
-      rate_bounded node l =
-          elim (true_or_false (computes t node)) [
-            | inl does ↦ rate_small t values ticks looked timed steady node l does
-            | inr doesnt ↦ let none = idle t values ticks looked node doesnt in omega (arith, none)
-          ]
+      module _ (routes : List Route) (are : AreRoutes (flow_with t (flow kind) (uses kind)) kind routes) where
+        -- what comes to an end at a node is what it uses
+        pub comes_to : (node : ℕ) → node < length t.platform.nodes → brought node routes ≡ uses kind node
+        comes_to node l = are.met node l ∙ term_there (uses kind) 0 (length t.platform.nodes) node l
 
-      module _ (route : Route) (simple : IsSimpleRoute (master_of t.platform) 0 links route) (among : route.count ≤ brought route.end routes) where
-        differ : IsDistinct nat_eq (nodes_on t route.links route.end)
-        differ = rw (same_nodes route.links route.end simple.walk) at simple.simple
+        module _ (route : Route) (simple : IsSimpleRoute (master_of t.platform) kind links route) (among : route.count ≤ brought route.end routes) where
+          differ : IsDistinct nat_eq (nodes_on t route.links route.end)
+          differ = rw (same_nodes route.links route.end simple.walk) at simple.simple
 
-        first : first_node t route.links route.end ≡ master_of t.platform
-        first = sym (same_first route.links route.end simple.walk) ∙ simple.from_master
+          first : first_node t route.links route.end ≡ master_of t.platform
+          first = sym (same_first route.links route.end simple.walk) ∙ simple.from_master
 
-        walk : IsWalk t route.links route.end
-        walk = is_walk route.links route.end simple.walk (simple_away route.links route.end first differ)
+          walk : IsWalk t route.links route.end
+          walk = is_walk route.links route.end simple.walk (simple_away route.links route.end first differ)
 
-        there : route.end < length t.platform.nodes
-        there = end_inside route.links route.end walk (rw first timed.platform.a_master)
+          there : route.end < length t.platform.nodes
+          there = end_inside route.links route.end walk (rw first timed.platform.a_master)
 
-        itself : nat_eq (master_of t.platform) (master_of t.platform) ≡ true
-        itself = grind (arith, nat_tests)
+          itself : nat_eq (master_of t.platform) (master_of t.platform) ≡ true
+          itself = grind (arith, nat_tests)
 
-        computed : computes t route.end ≡ true
-        computed =
-            elim (true_or_false (computes t route.end)) [
-              | inl does ↦ does
-              | inr doesnt ↦ let none = idle t values ticks looked route.end doesnt in absurd (omega (arith, none, among, comes_to route.end there, simple.some))
-            ]
+          few : length (nodes_on t route.links route.end) ≤ length t.platform.nodes
+          few =
+              length-le_from_distinct_below (nodes_on t route.links route.end) (length t.platform.nodes) differ
+              (found_below (length t.platform.nodes) (nodes_on t route.links route.end) (nodes_inside route.links route.end walk there))
 
-        few : length (nodes_on t route.links route.end) ≤ length t.platform.nodes
-        few =
-            length-le_from_distinct_below (nodes_on t route.links route.end) (length t.platform.nodes) differ
-            (found_below (length t.platform.nodes) (nodes_on t route.links route.end) (nodes_inside route.links route.end walk there))
+          is_route : IsRouteOf t series ticks route
+          is_route = record {
+            from_master = rw first itself;
+            walk = walk;
+            simple = differ;
+            ending = ends_well series route known simple.same_kind (amounts.may_use kind route.end known there (omega (arith, simple.some, among, comes_to route.end there)));
+            inside = there;
+            short = omega (arith, few, count_nodes route.links route.end);
+            some = simple.some;
+            bounded = let most = amounts.little kind route.end known there in omega (arith, among, most, comes_to route.end there);
+          }
 
-        is_route : IsRouteOf t ticks route
-        is_route = record {
-          from_master = rw first itself;
-          walk = walk;
-          simple = differ;
-          kind = simple.same_kind;
-          computed = computed;
-          inside = there;
-          short = omega (arith, few, count_nodes route.links route.end);
-          some = simple.some;
-          bounded = let most = rate_bounded route.end there in omega (arith, among, most, comes_to route.end there);
-        }
+        -- what a route brings to its end is among all that comes there
+        brings : (k : ℕ) (d : Route) → k < length routes → (get_or routes k d).count ≤ brought (get_or routes k d).end routes
+        brings k d l =
+            let more = sum_by_more_le (λ (other : Route). cond (nat_eq other.end (get_or routes k d).end) other.count 0) routes k d l in
+            let same : nat_eq (get_or routes k d).end (get_or routes k d).end ≡ true = grind (arith, nat_tests) in
+            among _ _ _ _ more (rw same refl)
+          where
+            among : (a v b c : ℕ) → a + v ≤ b → v ≡ c → c ≤ b
+            among a v b c h e = omega arith
 
-      -- what a route brings to its end is among all that comes there
-      brings : (k : ℕ) (d : Route) → k < length routes → (get_or routes k d).count ≤ brought (get_or routes k d).end routes
-      brings k d l =
-          let more = sum_by_more_le (λ (other : Route). cond (nat_eq other.end (get_or routes k d).end) other.count 0) routes k d l in
-          let same : nat_eq (get_or routes k d).end (get_or routes k d).end ≡ true = grind (arith, nat_tests) in
-          among _ _ _ _ more (rw same refl)
-        where
-          among : (a v b c : ℕ) → a + v ≤ b → v ≡ c → c ≤ b
-          among a v b c h e = omega arith
-
-      pub are_routes : All (IsRouteOf t ticks) routes
-      are_routes k d l = is_route (get_or routes k d) (All-get_or (IsSimpleRoute (master_of t.platform) 0 links) routes k d l are.simple) (brings k d l)
+        pub are_routes : All (IsRouteOf t series ticks) routes
+        are_routes k d l = is_route (get_or routes k d) (All-get_or (IsSimpleRoute (master_of t.platform) kind links) routes k d l are.simple) (brings k d l)
