@@ -1,2 +1,6 @@
 pub mod Terms
 pub mod Scaled
+pub mod Whole
+pub mod Bounds
+pub mod Overs
+pub mod TaskAmounts
