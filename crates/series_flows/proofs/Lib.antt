@@ -4,3 +4,4 @@ pub mod Whole
 pub mod Bounds
 pub mod Overs
 pub mod TaskAmounts
+pub mod MessageAmounts

@@ -3,7 +3,7 @@ use Rattle.std.proofs.Common.{◌≡◌, ℕ, zero, suc, ◌+◌, ◌*◌, ◌<�
 use Rattle.std.proofs.lemmas.Bool.{cases_lt}
 use Rattle.std.proofs.lemmas.Bool.Decides.{nat_tests}
 use Rattle.programme_rows.specs.Listings.{total_below}
-use Rattle.programme_rows.proofs.Totals.{no_total, same_total, total_plus, total_scaled}
+use Rattle.programme_rows.proofs.Totals.{no_total, same_total, total_plus, total_scaled, total_at_most}
 
 -- what isn't used carries nothing, so that all count that pass the test
 pub used_alone : (n : ℕ) (used test : ℕ → Bool) (f : ℕ → ℕ) → ((k : ℕ) → used k ≡ false → f k ≡ 0) →
@@ -30,6 +30,12 @@ over_each_kind n m test cost flow =
     each : (b : Bool) (link : ℕ) → total_below n (λ kind. cond b (cost link * flow kind link) 0) ≡ cond b (cost link * total_below n (λ kind. flow kind link)) 0
     each true link = total_scaled n (cost link) (λ kind. flow kind link)
     each false link = no_total n
+
+-- totals keep the ratio of their numbers
+pub total_in_ratio : (n a b : ℕ) (f g : ℕ → ℕ) → ((k : ℕ) → k < n → a * f k ≤ b * g k) → a * total_below n f ≤ b * total_below n g
+total_in_ratio n a b f g h =
+    let all = total_at_most n (λ k. a * f k) (λ k. b * g k) h in
+    omega (arith, all, total_scaled n a f, total_scaled n b g)
 
 -- a total of which one number alone may not be 0
 none_before : (n e c : ℕ) → n ≤ e → total_below n (λ k. cond (nat_eq k e) c 0) ≡ 0
