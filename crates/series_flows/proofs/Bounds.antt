@@ -1,5 +1,5 @@
 -- Bounds on the ticks of tasks and links, and on what takes them.
-use Rattle.std.proofs.Common.{◌≡◌, ℕ, ◌+◌, ◌*◌, ◌/◌, ◌<◌, ◌≤◌, true, false, [], length, get_or, All, Option, Some, None, IfSome, option_map, unwrap_or, ap, ◌∙◌, arith}
+use Rattle.std.proofs.Common.{◌≡◌, ℕ, ◌+◌, ◌*◌, ◌/◌, ◌<◌, ◌≤◌, true, false, [], length, get_or, Option, Some, None, IfSome, option_map, unwrap_or, ap, ◌∙◌, arith}
 use Rattle.std.specs.Option.{is_some}
 use Rattle.std.proofs.Math.Nat.{mul-le-mul_left, mul-le-mul_right, lt-div-mul-add}
 use Rattle.std.proofs.lemmas.List.{get_or-map, length-map}

@@ -2,6 +2,6 @@ pub mod Terms
 pub mod Scaled
 pub mod Whole
 pub mod Bounds
-pub mod Overs
+pub mod LinkTotals
 pub mod TaskAmounts
 pub mod MessageAmounts

@@ -1,8 +1,7 @@
 -- A solution of a scatter, in as many ticks as make its values whole, has amounts of which routes and slots can be made.
-use Rattle.std.proofs.Common.{◌≡◌, ℕ, zero, suc, ◌+◌, ◌*◌, ◌%◌, ◌<◌, ◌≤◌, Bool, true, false, ◌&&◌, cond, nat_eq, pos, ◌*ℤ◌, List, length, get_or, All, refl, sym, ap, ◌∙◌, subst, arith, inl, inr}
+use Rattle.std.proofs.Common.{◌≡◌, ℕ, zero, suc, ◌+◌, ◌*◌, ◌%◌, ◌<◌, ◌≤◌, Bool, true, false, ◌&&◌, cond, nat_eq, pos, ◌*ℤ◌, List, length, All, refl, sym, ap, ◌∙◌, subst, arith, inl, inr}
 use Rattle.std.proofs.Math.Nat.{mul-le-mul_left, mul-le-mul_right}
 use Rattle.std.proofs.lemmas.Bool.{eqb-true, eq-eqb, ne_eqb}
-use Rattle.std.proofs.lemmas.Bool.Decides.{nat_tests}
 use Rattle.std.proofs.lemmas.List.Elements.{All-nil, All-cons, All-append, All-get_or}
 use Rattle.ratio_core.specs.Fraction.{Fraction, whole}
 use Rattle.platform_file.specs.Platform.{is_master, IsTarget}
@@ -17,17 +16,16 @@ use Rattle.programme_rows.proofs.Listings.{each_all}
 use Rattle.programme_rows.proofs.Totals.{one_of_total, same_total}
 use Rattle.scatter_program.specs.declared.columns.Column.{Column}
 use Rattle.scatter_program.specs.declared.columns.Column.TheVariants.{Rate, Flows}
-use Rattle.scatter_program.specs.Columns.{target_of, carries, flows_of, flows_below, columns_of, column_at}
+use Rattle.scatter_program.specs.Columns.{target_of, carries, flows_of, flows_below, columns_of}
 use Rattle.scatter_program.specs.Programme.{scatter_programme}
 use Rattle.scatter_program.specs.Points.{same_column, amounts_of, over_links, AreLookedUp, IsSteady}
-use Rattle.series_flows.specs.Programmes.{lacks_targets}
 use Rattle.series_flows.specs.Flows.{tasks_in, flow_in, use_in}
 use Rattle.series_flows.specs.Points.{IsPoint}
 use Rattle.series_flows.specs.Amounts.{over, over_kinds, AreAmounts}
 use Rattle.series_flows.proofs.Terms.{true_or_false}
 use Rattle.series_flows.proofs.Whole.{no_tasks, AreInTicks, values_small, feasible, gains}
 use Rattle.series_flows.proofs.Bounds.{lasting, some_cost, unit_of_costs, sender_inside}
-use Rattle.series_flows.proofs.Overs.{used_alone, over_each_kind, total_in_ratio, one_total}
+use Rattle.series_flows.proofs.LinkTotals.{used_alone, over_each_kind, total_in_ratio, one_total}
 
 -- a column's messages in the ticks
 abbrev pub messages_of : TimedView → List Fraction → ℕ → Column → ℕ

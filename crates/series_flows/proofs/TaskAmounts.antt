@@ -1,8 +1,8 @@
 -- A solution of tasking, in as many ticks as make its values whole, has amounts of which routes and slots can be made.
-use Rattle.std.proofs.Common.{◌≡◌, ℕ, zero, suc, ◌+◌, ◌*◌, ◌%◌, ◌<◌, ◌≤◌, Bool, true, false, ◌&&◌, cond, nat_eq, pos, ◌*ℤ◌, List, length, get_or, All, refl, sym, ap, ◌∙◌, subst, arith, inl, inr}
+use Rattle.std.proofs.Common.{◌≡◌, ℕ, ◌+◌, ◌*◌, ◌%◌, ◌<◌, ◌≤◌, Bool, true, false, ◌&&◌, cond, nat_eq, pos, ◌*ℤ◌, List, length, All, refl, sym, ap, ◌∙◌, subst, arith, inl, inr}
 use Rattle.std.proofs.lemmas.Bool.Decides.{nat_tests}
 use Rattle.std.proofs.lemmas.List.Elements.{All-append, All-get_or}
-use Rattle.ratio_core.specs.Fraction.{Fraction, whole}
+use Rattle.ratio_core.specs.Fraction.{Fraction}
 use Rattle.platform_file.specs.Platform.{is_master}
 use Rattle.platform_file.specs.Ticks.{TimedView, IsTimed}
 use Rattle.schedule_model.specs.Operations.{cost_of, time_of, sender_of, receiver_of}
@@ -15,7 +15,7 @@ use Rattle.programme_rows.proofs.Listings.{each_all}
 use Rattle.programme_rows.proofs.Totals.{one_of_total, same_total}
 use Rattle.tasking_program.specs.declared.columns.Column.{Column}
 use Rattle.tasking_program.specs.declared.columns.Column.TheVariants.{Computes, Flows}
-use Rattle.tasking_program.specs.Columns.{computes, carries, columns_of, column_at}
+use Rattle.tasking_program.specs.Columns.{computes, carries, columns_of}
 use Rattle.tasking_program.specs.Programme.{tasking_programme}
 use Rattle.tasking_program.specs.Points.{same_column, amounts_of, over_links, AreLookedUp, IsSteady}
 use Rattle.series_flows.specs.Flows.{tasks_in, flow_in, use_in}
@@ -24,7 +24,7 @@ use Rattle.series_flows.specs.Amounts.{over, over_kinds, AreAmounts}
 use Rattle.series_flows.proofs.Terms.{true_or_false}
 use Rattle.series_flows.proofs.Whole.{no_tasks, AreInTicks, values_small, feasible, gains}
 use Rattle.series_flows.proofs.Bounds.{lasting, few_units, some_time, unit_of_times, some_cost, sender_inside}
-use Rattle.series_flows.proofs.Overs.{used_alone}
+use Rattle.series_flows.proofs.LinkTotals.{used_alone}
 
 -- a column's tasks in the ticks
 abbrev pub tasks_of : TimedView → List Fraction → ℕ → Column → ℕ
