@@ -5,3 +5,5 @@ pub mod Bounds
 pub mod LinkTotals
 pub mod TaskAmounts
 pub mod MessageAmounts
+pub mod Targets
+pub mod SameFlows

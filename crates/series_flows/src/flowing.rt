@@ -1,6 +1,6 @@
 //! The flows of a solution.
 
-ghost use Rattle.std.specs.Prelude.{◌≡◌, ◌≤◌, ◌<◌, All, length, map, cond, nat_eq, get_or, slice_index, IfOk};
+ghost use Rattle.std.specs.Prelude.{◌≡◌, ℕ, ◌≤◌, ◌<◌, All, length, map, cond, nat_eq, get_or, slice_index, IfOk};
 ghost use Rattle.ratio_core.specs.Fraction.{whole};
 ghost use Rattle.exact_simplex.specs.Optima.{first_terms};
 ghost use Rattle.programme_rows.specs.LookUps.{value_of};
@@ -140,6 +140,7 @@ fn task_flows(
     requires small { All (λ value. tasks_in ticks value ≤ ticks) values.now }
     ensures { IfOk result (λ flows. flows ≡ first_terms (flow_of timed.now Tasking values.now ticks) 1) }
 {
+    timed.known();
     let columns = task_columns(alloc, timed)?;
     let amounts = task_amounts(timed, columns.as_slice(), values, ticks);
     let mut flows = Listed::new(alloc);

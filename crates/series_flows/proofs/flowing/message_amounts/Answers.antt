@@ -1,11 +1,17 @@
-use Rattle.std.proofs.Common.{rules, ◌≡◌, ℕ, ◌*◌, refl, sym, ◌∙◌, arith}
+use Rattle.std.proofs.Common.{rules, ◌≡◌, ℕ, ◌*◌, Bool, true, false, cond, refl, sym, ◌∙◌, arith}
 use Rattle.std.proofs.Math.Seq.{drop-length}
 use Rattle.std.proofs.lemmas.List.{get_or-replicate}
 use Rattle.std.proofs.lemmas.Grind.{common_steps}
+use Rattle.ratio_core.specs.Fraction.{whole}
+use Rattle.series_flows.specs.Flows.{tasks_in}
 use Rattle.series_flows.proofs.flowing.message_amounts.Goals as goal
 
 nothing : (n : ℕ) → 0 * n ≡ 0
 nothing n = omega arith
+
+either_way : (b : Bool) (ticks : ℕ) → tasks_in ticks (cond b (whole 0) (whole 0)) ≡ 0
+either_way true ticks = nothing _
+either_way false ticks = nothing _
 
 pub loop-k-init : goal.loop-k-init
 loop-k-init c =
@@ -13,7 +19,7 @@ loop-k-init c =
     record {
       nodes = refl;
       links = refl;
-      uses = λ node l. get_or-replicate 32 node 0 0 l ∙ sym (rw none (nothing _));
+      uses = λ node l. get_or-replicate 32 node 0 0 l ∙ sym (rw none (either_way _ c.args.ticks));
       flows = λ link l. get_or-replicate 128 link 0 0 l ∙ sym (rw none (nothing _));
     }
 
