@@ -1,5 +1,4 @@
-use Rattle.std.proofs.Common.{◌≡◌, ℕ, ◌%◌, ◌≤◌, ◌*ℤ◌, All, List, false, nat_eq, length, pos, arith}
-use Rattle.std.proofs.lemmas.Bool.Decides.{nat_tests}
+use Rattle.std.proofs.Common.{◌≡◌, ℕ, ◌%◌, ◌≤◌, ◌*ℤ◌, All, List, false, length, pos}
 use Rattle.ratio_core.specs.Fraction.{Fraction}
 use Rattle.platform_file.specs.Ticks.{TimedView, IsTimed}
 use Rattle.schedule_model.specs.declared.schedule.Series.{Series}
@@ -10,12 +9,10 @@ use Rattle.series_flows.specs.Programmes.{programme_of, lacks_targets}
 use Rattle.series_flows.specs.Flows.{tasks_in, flow_in, use_in}
 use Rattle.series_flows.specs.Points.{IsPoint}
 use Rattle.series_flows.specs.Amounts.{AreAmounts}
+use Rattle.series_flows.proofs.Targets.{some_target}
 use Rattle.series_flows.proofs.TaskAmounts as task
 use Rattle.series_flows.proofs.MessageAmounts as message
 use Rattle.series_flows.proofs.steadying.points_are_amounts.Goals as goal
-
-some_target : (n : ℕ) → nat_eq n 0 ≡ false → 1 ≤ n
-some_target n e = grind (arith, nat_tests)
 
 pub returns-clause-amounts : goal.returns-clause-amounts
 returns-clause-amounts c = amounts
@@ -28,7 +25,7 @@ returns-clause-amounts c = amounts
     amounts t Scatter values ticks timed some point whole_ones =
         let looked = c.columns_are_looked_up-2.ensures t in
         message.are_amounts t values ticks looked timed (c.points_are_steady-2.ensures.steady t (message.messages_of t values ticks) ticks (message.in_programme t values ticks looked point whole_ones))
-        (some_target (length t.platform.targets) some)
+        (some_target t some)
 
 pub returns-clause-small : goal.returns-clause-small
 returns-clause-small c = small
@@ -41,7 +38,7 @@ returns-clause-small c = small
     small t Scatter values ticks timed some point whole_ones =
         let looked = c.columns_are_looked_up-2.ensures t in
         message.small t values ticks looked timed (c.points_are_steady-2.ensures.steady t (message.messages_of t values ticks) ticks (message.in_programme t values ticks looked point whole_ones))
-        (some_target (length t.platform.targets) some) point.one_each
+        (some_target t some) point.one_each
 
 pub returns-clause-gain : goal.returns-clause-gain
 returns-clause-gain c = gain
@@ -51,4 +48,4 @@ returns-clause-gain c = gain
     gain t Tasking values ticks timed some point whole_ones =
         task.gain t values ticks (c.columns_are_looked_up.ensures t) point whole_ones (c.points_are_steady.ensures.gain t (task.tasks_of t values ticks))
     gain t Scatter values ticks timed some point whole_ones =
-        message.gain t values ticks (c.columns_are_looked_up-2.ensures t) timed (some_target (length t.platform.targets) some) point whole_ones (c.points_are_steady-2.ensures.gain t (message.messages_of t values ticks))
+        message.gain t values ticks (c.columns_are_looked_up-2.ensures t) timed (some_target t some) point whole_ones (c.points_are_steady-2.ensures.gain t (message.messages_of t values ticks))
