@@ -1,4 +1,9 @@
 pub mod Terms
 pub mod Scaled
+pub mod Whole
+pub mod Bounds
+pub mod LinkTotals
+pub mod TaskAmounts
+pub mod MessageAmounts
 pub mod Targets
 pub mod SameFlows

@@ -11,10 +11,12 @@ ghost use Rattle.series_flows.specs.Flows.{tasks_in, flow_in, use_in};
 ghost use Rattle.series_flows.specs.Points.{IsPoint};
 ghost use Rattle.series_flows.specs.Amounts.{AreAmounts};
 
-use scatter_program::columns_are_looked_up as messages_are_looked_up;
-use scatter_program::points_are_steady as message_points_are_steady;
-use tasking_program::columns_are_looked_up as tasks_are_looked_up;
-use tasking_program::points_are_steady as task_points_are_steady;
+use scatter_program::{
+    columns_are_looked_up as messages_are_looked_up, points_are_steady as message_points_are_steady,
+};
+use tasking_program::{
+    columns_are_looked_up as tasks_are_looked_up, points_are_steady as task_points_are_steady,
+};
 
 /// In as many ticks as make its values whole, a solution has amounts of which routes and slots can be made; none of its numbers exceeds
 /// the ticks, and what the nodes use of the first kind is what it gains.
