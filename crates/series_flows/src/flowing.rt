@@ -16,12 +16,10 @@ use flow_routes::Flow;
 use listed::{Listed, NoMemory};
 use platform_file::Timed;
 use ratio_core::Ratio;
+use scatter_program::{Column as MessageColumn, columns_of as message_columns};
 use schedule_model::Series;
-use scatter_program::Column as MessageColumn;
-use scatter_program::columns_of as message_columns;
 use std::alloc::Global;
-use tasking_program::Column as TaskColumn;
-use tasking_program::columns_of as task_columns;
+use tasking_program::{Column as TaskColumn, columns_of as task_columns};
 
 /// The most nodes that a platform has.
 const NODES: usize = 32;

@@ -10,14 +10,16 @@ ghost use Rattle.series_flows.specs.Programmes.{programme_of, lacks_targets};
 use crate::fault::ProgrammeFault;
 use linear_program::Lp;
 use platform_file::Timed;
-use scatter_program::prices_bound_rates as message_prices_bound_rates;
-use scatter_program::programmes_are_bounded as message_programmes_are_bounded;
-use scatter_program::scatter_lp;
+use scatter_program::{
+    prices_bound_rates as message_prices_bound_rates,
+    programmes_are_bounded as message_programmes_are_bounded, scatter_lp,
+};
 use schedule_model::Series;
 use std::alloc::Global;
-use tasking_program::prices_bound_rates as task_prices_bound_rates;
-use tasking_program::programmes_are_bounded as task_programmes_are_bounded;
-use tasking_program::tasking_lp;
+use tasking_program::{
+    prices_bound_rates as task_prices_bound_rates,
+    programmes_are_bounded as task_programmes_are_bounded, tasking_lp,
+};
 
 /// Prices that cover every column of a series' programme bound the rate of every schedule that the platform can carry out: at every
 /// resolution, of every length, and for every list of operations. The programme is bounded.

@@ -1,8 +1,5 @@
-use Rattle.std.proofs.Common.{rules, ◌≡◌, ℕ, ◌<◌, ◌++◌, [], ◌∷◌, length, cond, nat_eq, slice_index, sym, ap, ◌∙◌, add-one, arith}
-use Rattle.ratio_core.specs.Fraction.{Fraction, whole}
-use Rattle.exact_simplex.specs.Optima.{first_terms}
+use Rattle.std.proofs.Common.{rules, ◌≡◌, ◌++◌, [], ◌∷◌, ap, ◌∙◌, add-one, arith}
 use Rattle.schedule_model.specs.declared.schedule.Series.TheVariants.{Scatter}
-use Rattle.flow_routes.specs.declared.flow.Flow.{Flow}
 use Rattle.scatter_program.specs.Columns.{columns_of}
 use Rattle.series_flows.specs.Flows.{flow_in, use_in, flow_of}
 use Rattle.series_flows.proofs.SameFlows.{same_flow}

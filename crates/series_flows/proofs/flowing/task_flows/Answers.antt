@@ -1,4 +1,4 @@
-use Rattle.std.proofs.Common.{rules, ◌≡◌, ℕ, ◌<◌, ◌++◌, [], ◌∷◌, length, slice_index, ap, ◌∙◌, arith}
+use Rattle.std.proofs.Common.{rules, ◌≡◌, [], ◌∷◌, ap, ◌∙◌, arith}
 use Rattle.schedule_model.specs.declared.schedule.Series.TheVariants.{Tasking}
 use Rattle.tasking_program.specs.Columns.{columns_of}
 use Rattle.series_flows.specs.Flows.{flow_in, use_in, flow_of}
