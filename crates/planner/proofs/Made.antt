@@ -24,15 +24,15 @@ use Rattle.period_table.specs.declared.table.Table.{Table}
 use Rattle.period_table.specs.Lanes.{LaneAt, lanes_from, lanes_of, lane_at}
 use Rattle.period_table.specs.Cuts.{IsSeparate, carried_on, room_of, cut_slots}
 use Rattle.period_table.specs.Tables.{IsWalk, IsRoute, IsSlot, IsMatching, Fits, KeepsPorts, longest, moved_over}
-use Rattle.planner.specs.declared.numbers.Scale.{Scale}
-use Rattle.planner.specs.Loads.{edge_of, weights_of}
+use Rattle.series_routes.specs.declared.numbers.Scale.{Scale}
+use Rattle.series_routes.specs.Loads.{edge_of, weights_of}
 use Rattle.planner.specs.Scales.{part_numbers, common_factor, scaled_route, scaled_part}
 use Rattle.planner.specs.Solutions.{IsRouteOf, IsSolution}
 use Rattle.planner.specs.Making.{table_with}
-use Rattle.planner.proofs.Terms.{length_terms, term_there}
+use Rattle.series_flows.proofs.Terms.{length_terms, term_there}
 use Rattle.planner.proofs.Divisors.{some_divisor, of_period, of_routes, of_parts}
 use Rattle.planner.proofs.Rooms.{counts_scaled, ends_scaled, carried_scaled, room_enough, all_ticks_scaled}
-use Rattle.planner.proofs.RouteLinks.{carries_none}
+use Rattle.series_routes.proofs.RouteLinks.{carries_none}
 use Rattle.planner.proofs.LanesCarry.{lanes_carry}
 
 -- ---- lanes and lengths

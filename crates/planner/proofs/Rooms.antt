@@ -14,7 +14,7 @@ use Rattle.bipartite_slots.specs.Parts.{is_in}
 use Rattle.bipartite_slots.specs.declared.weights.SlotPart.{SlotPart}
 use Rattle.period_table.specs.Cuts.{room_in, room_of}
 use Rattle.planner.specs.Scales.{part_numbers, scaled_route, scaled_part}
-use Rattle.planner.proofs.Terms.{true_or_false}
+use Rattle.series_flows.proofs.Terms.{true_or_false}
 use Rattle.planner.proofs.Divided.{exchanged}
 use Rattle.planner.proofs.Divisors.{each_mapped}
 

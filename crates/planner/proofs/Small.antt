@@ -15,8 +15,8 @@ use Rattle.tasking_program.specs.declared.columns.Column.TheVariants.{Computes, 
 use Rattle.tasking_program.specs.Columns.{computes, carries, columns_of, column_at, Exists}
 use Rattle.tasking_program.specs.Points.{AreLookedUp, IsSteady}
 use Rattle.series_flows.specs.Flows.{tasks_in, amount_in}
-use Rattle.planner.proofs.Terms.{true_or_false}
-use Rattle.planner.proofs.FlowsKept.{unused, sender_inside}
+use Rattle.series_flows.proofs.Terms.{true_or_false}
+use Rattle.series_routes.proofs.FlowsKept.{unused, sender_inside}
 
 pub one_of_total : (n : ℕ) (f : ℕ → ℕ) (i : ℕ) → i < n → f i ≤ total_below n f
 one_of_total zero f i l = absurd (omega arith)

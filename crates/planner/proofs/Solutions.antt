@@ -24,23 +24,23 @@ use Rattle.tasking_program.specs.declared.columns.Column.TheVariants.{Computes, 
 use Rattle.tasking_program.specs.Columns.{columns_of, computes}
 use Rattle.tasking_program.specs.Programme.{tasking_programme}
 use Rattle.tasking_program.specs.Points.{same_column, amounts_of, AreLookedUp, IsSteady}
-use Rattle.planner.specs.declared.numbers.PeriodStep.TheVariants.{Denominators, Costs, Product}
-use Rattle.planner.specs.declared.numbers.Scale.{Scale}
-use Rattle.planner.specs.declared.numbers.TableFault.{TableFault}
-use Rattle.planner.specs.declared.numbers.TableFault.TheVariants.{Period}
-use Rattle.planner.specs.Numbers.{common_denominator, costs_over, with_cost, common_cost, product_of, and_then, scale_of}
+use Rattle.series_routes.specs.declared.numbers.PeriodStep.TheVariants.{Denominators, Costs, Product}
+use Rattle.series_routes.specs.declared.numbers.Scale.{Scale}
+use Rattle.series_routes.specs.declared.numbers.TableFault.{TableFault}
+use Rattle.series_routes.specs.declared.numbers.TableFault.TheVariants.{Period}
+use Rattle.series_routes.specs.Numbers.{common_denominator, costs_over, with_cost, common_cost, product_of, and_then, scale_of}
 use Rattle.series_flows.specs.Flows.{tasks_in, amount_in, ends_of, flow_of}
-use Rattle.planner.specs.Loads.{weights_of}
+use Rattle.series_routes.specs.Loads.{weights_of}
 use Rattle.series_flows.specs.Points.{IsPoint}
 use Rattle.planner.specs.Solutions.{IsRouteOf, IsSolution}
-use Rattle.planner.proofs.Terms.{true_or_false, term_there}
-use Rattle.planner.proofs.FlowsKept.{same_total, idle}
+use Rattle.series_flows.proofs.Terms.{true_or_false, term_there}
+use Rattle.series_routes.proofs.FlowsKept.{same_total, idle}
 use Rattle.planner.proofs.Steady.{divides_multiple, some_factors, feasible}
 use Rattle.planner.proofs.Divisors.{each_mapped}
 use Rattle.planner.proofs.Small.{flow_in_time, flow_small}
-use Rattle.planner.proofs.Walks.{comes_to, rate_bounded, are_routes}
-use Rattle.planner.proofs.Totals.{total_times, total_within, all_brought, unit_bounded}
-use Rattle.planner.proofs.RouteLinks.{carries_none}
+use Rattle.series_routes.proofs.Walks.{comes_to, rate_bounded, are_routes}
+use Rattle.series_routes.proofs.Totals.{total_times, total_within, all_brought, unit_bounded}
+use Rattle.series_routes.proofs.RouteLinks.{carries_none}
 use Rattle.planner.proofs.Made.{walk_links}
 
 -- ---- the three steps of a scale

@@ -12,13 +12,13 @@ use Rattle.linear_program.specs.Duality.{IsFeasible}
 use Rattle.tasking_program.specs.Columns.{columns_of}
 use Rattle.tasking_program.specs.Programme.{tasking_programme}
 use Rattle.tasking_program.specs.Points.{amounts_of, AreLookedUp}
-use Rattle.planner.specs.declared.numbers.PeriodStep.{PeriodStep}
-use Rattle.planner.specs.declared.numbers.TableFault.{TableFault}
-use Rattle.planner.specs.declared.numbers.TableFault.TheVariants.{Period}
-use Rattle.planner.specs.Numbers.{multiple_of}
+use Rattle.series_routes.specs.declared.numbers.PeriodStep.{PeriodStep}
+use Rattle.series_routes.specs.declared.numbers.TableFault.{TableFault}
+use Rattle.series_routes.specs.declared.numbers.TableFault.TheVariants.{Period}
+use Rattle.series_routes.specs.Numbers.{multiple_of}
 use Rattle.series_flows.specs.Flows.{amount_in}
 use Rattle.series_flows.specs.Points.{IsPoint}
-use Rattle.planner.proofs.Terms.{true_or_false}
+use Rattle.series_flows.proofs.Terms.{true_or_false}
 use Rattle.planner.proofs.Scaled.{scaled_feasible, scaled_gain}
 
 ok_same : (r : Result ℕ TableFault) (a b : ℕ) → r ≡ Ok a → r ≡ Ok b → a ≡ b

@@ -1,5 +1,5 @@
 -- The table that a solution makes. Source: this project, after the periodic schedules of Beaumont, Legrand and Robert.
-use Rattle.std.specs.Prelude.{◌≡◌, ℕ, ◌*◌, ◌/◌, List, length, map, Ok}
+use Rattle.std.specs.Prelude.{◌≡◌, ℕ, ◌*◌, ◌/◌, List, length, map}
 use Rattle.ratio_core.specs.Fraction.{Fraction}
 use Rattle.platform_file.specs.Ticks.{TimedView}
 use Rattle.schedule_model.specs.declared.schedule.Series.{Series}
@@ -10,12 +10,9 @@ use Rattle.period_table.specs.Lanes.{lanes_of}
 use Rattle.period_table.specs.Cuts.{cut_slots}
 use Rattle.period_table.specs.Tables.{longest}
 use Rattle.period_table.specs.declared.table.Table.{Table}
-use Rattle.planner.specs.declared.numbers.Scale.{Scale}
-use Rattle.planner.specs.Numbers.{scale_of}
-use Rattle.series_flows.specs.Programmes.{kinds_of}
-use Rattle.series_flows.specs.Flows.{flow_of}
-use Rattle.planner.specs.Routings.{tasks_of_kind, AreRoutesBelow}
-use Rattle.planner.specs.Loads.{weights_of}
+use Rattle.series_routes.specs.declared.numbers.Scale.{Scale}
+use Rattle.series_routes.specs.Routings.{tasks_of_kind, IsRoutedIn}
+use Rattle.series_routes.specs.Loads.{weights_of}
 use Rattle.planner.specs.Scales.{common_factor, scaled_route, scaled_part}
 
 -- the table of some routes and parts, all divided by a number; its tasks are those of the first kind, of which there are as many as of each
@@ -35,11 +32,6 @@ table_with t scale routes parts = divided_table t scale (common_factor t scale.t
 -- the parts are the ruled ones of the routes' loads
 abbrev pub AreFirstParts : TimedView → ℕ → List Route → List SlotPart → Type 0
 AreFirstParts t total routes parts = AreChosenParts (2 * length t.platform.nodes) (weights_of t routes).edges (padded (weights_of t routes) total) total parts
-
--- the numbers are those by which the values are scaled, and the routes the ruled ones of their flows
-pub record IsRoutedIn (t : TimedView) (series : Series) (values : List Fraction) (scale : Scale) (routes : List Route) : Type 0 where
-  pub scaled : scale_of t series values ≡ Ok scale
-  pub routed : AreRoutesBelow (flow_of t series values scale.ticks) (kinds_of t series) routes
 
 -- the table is the one of the ruled routes of the values' flows and of the ruled parts of what these send over the links
 pub record IsTableOf (t : TimedView) (series : Series) (values : List Fraction) (table : Table) : Type 0 where

@@ -8,21 +8,13 @@ use Rattle.exact_simplex.specs.Bland.{bland_run}
 use Rattle.exact_simplex.specs.declared.fault.SolveFault.{SolveFault}
 use Rattle.schedule_model.specs.declared.schedule.Series.{Series}
 use Rattle.planner.specs.declared.fault.PlanFault.{PlanFault}
-use Rattle.planner.specs.declared.numbers.PeriodStep.{PeriodStep}
-use Rattle.planner.specs.declared.numbers.PeriodStep.TheVariants.{Denominators, Costs, Product}
-use Rattle.planner.specs.declared.numbers.Scale.{Scale}
-use Rattle.planner.specs.declared.numbers.TableFault.{TableFault}
-use Rattle.planner.specs.declared.numbers.TableFault.TheVariants as table
+use Rattle.series_routes.specs.declared.numbers.Scale.{Scale}
+use Rattle.series_routes.specs.declared.numbers.TableFault.{TableFault}
+use Rattle.series_routes.specs.declared.numbers.TableFault.TheVariants as table
 use Rattle.planner.specs.declared.planned.Plan.{Plan}
 use Rattle.series_flows.specs.Programmes.{programme_of, lacks_targets}
-use Rattle.planner.specs.Numbers.{scale_of}
+use Rattle.series_routes.specs.Numbers.{step_text, scale_of}
 use Rattle.planner.specs.Making.{IsTableOf}
-
--- the word for a step
-abbrev pub step_text : PeriodStep → List ℕ
-step_text Denominators = codes "denominators"
-step_text Costs = codes "costs"
-step_text Product = codes "product"
 
 -- the line that names why a platform isn't planned
 abbrev pub plan_fault_text : PlanFault → List ℕ

@@ -7,10 +7,10 @@ ghost use Rattle.linear_program.specs.Programmes.{gain_value};
 ghost use Rattle.period_table.specs.Tables.{Fits, KeepsPorts};
 ghost use Rattle.period_table.specs.TableSchedules.{table_schedule};
 ghost use Rattle.series_flows.specs.Programmes.{programme_of, lacks_targets};
-ghost use Rattle.planner.specs.Numbers.{scale_of};
+ghost use Rattle.series_routes.specs.Numbers.{scale_of};
 ghost use Rattle.series_flows.specs.Points.{IsPoint};
 ghost use Rattle.planner.specs.Solutions.{IsRouting, IsSolution};
-ghost use Rattle.planner.specs.Loads.{weights_of};
+ghost use Rattle.series_routes.specs.Loads.{weights_of};
 ghost use Rattle.planner.specs.Making.{AreFirstParts, table_with, IsTableOf};
 
 use crate::numbers::{Scale, TableFault};

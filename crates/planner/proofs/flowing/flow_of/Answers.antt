@@ -3,7 +3,7 @@ use Rattle.platform_file.specs.Platform.{PlatformView}
 use Rattle.exact_simplex.specs.Optima.{first_terms}
 use Rattle.tasking_program.specs.declared.columns.Column.TheVariants.{Computes, Flows}
 use Rattle.series_flows.specs.Flows.{amount_in}
-use Rattle.planner.proofs.Terms.{same_terms}
+use Rattle.series_flows.proofs.Terms.{same_terms}
 use Rattle.planner.proofs.flowing.flow_of.Goals as goal
 
 pub returns : goal.returns

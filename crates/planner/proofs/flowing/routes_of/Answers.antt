@@ -2,7 +2,7 @@ use Rattle.std.proofs.Common.{◌^◌, ◌<◌, ◌≤◌, arith}
 use Rattle.std.proofs.lemmas.List.Elements.{All-weaker}
 use Rattle.ratio_core.specs.Fraction.{Fraction}
 use Rattle.series_flows.specs.Flows.{tasks_in}
-use Rattle.planner.proofs.FlowsKept.{is_flow}
+use Rattle.series_routes.proofs.FlowsKept.{is_flow}
 use Rattle.planner.proofs.Small.{values_small}
 use Rattle.planner.proofs.flowing.routes_of.Goals as goal
 

@@ -7,14 +7,14 @@ use Rattle.flow_routes.specs.declared.flow.Route.{Route}
 use Rattle.bipartite_slots.specs.Parts.{AreParts}
 use Rattle.tasking_program.specs.Columns.{columns_of}
 use Rattle.tasking_program.specs.Programme.{tasking_programme}
-use Rattle.planner.specs.Numbers.{scale_of}
+use Rattle.series_routes.specs.Numbers.{scale_of}
 use Rattle.series_flows.specs.Flows.{amount_in, flow_of}
 use Rattle.planner.specs.Scales.{common_factor}
-use Rattle.planner.specs.Loads.{weights_of}
+use Rattle.series_routes.specs.Loads.{weights_of}
 use Rattle.planner.specs.Making.{table_with}
 use Rattle.planner.proofs.Steady.{gains}
 use Rattle.planner.proofs.Solutions.{whole_ones, short, steady, links_there, within, load_small, load_in_time, is_solution, gained}
-use Rattle.planner.proofs.WeightsFit.{are_within, exist, are_apart}
+use Rattle.series_routes.proofs.WeightsFit.{are_within, exist, are_apart}
 use Rattle.planner.proofs.Made.{some_g, tasks_whole, period_whole}
 use Rattle.planner.proofs.Rated.{rated}
 use Rattle.planner.proofs.making.table_over.Goals as goal

@@ -1,0 +1,4 @@
+pub mod Numbers
+pub mod Loads
+pub mod Routings
+pub mod Solutions
