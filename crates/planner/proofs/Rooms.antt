@@ -16,7 +16,7 @@ use Rattle.period_table.specs.Cuts.{room_in, room_of}
 use Rattle.planner.specs.Scales.{part_numbers, scaled_route, scaled_part}
 use Rattle.series_flows.proofs.Terms.{true_or_false}
 use Rattle.planner.proofs.Divided.{exchanged}
-use Rattle.planner.proofs.Divisors.{each_mapped}
+use Rattle.series_routes.proofs.Multiples.{each_mapped}
 
 -- what holds of all items holds of one that is found
 pub found_in : (P : ℕ → Type 0) (xs : List ℕ) → All P xs → (q : ℕ) → list_any (nat_eq q) xs ≡ true → P q

@@ -14,6 +14,12 @@ use Rattle.exact_simplex.specs.Optima.{first_terms}
 use Rattle.flow_routes.specs.declared.flow.Flow.{Flow}
 use Rattle.programme_rows.specs.Listings.{each_where}
 use Rattle.programme_rows.specs.LookUps.{value_of}
+use Rattle.tasking_program.specs.declared.columns.Column.TheVariants as task
+use Rattle.tasking_program.specs.Columns.{columns_of as task_columns}
+use Rattle.tasking_program.specs.Points.{same_column as same_task_column}
+use Rattle.scatter_program.specs.declared.columns.Column.TheVariants as message
+use Rattle.scatter_program.specs.Columns.{columns_of as message_columns}
+use Rattle.scatter_program.specs.Points.{same_column as same_message_column}
 use Rattle.series_flows.specs.Programmes.{kinds_of}
 use Rattle.series_flows.specs.Flows.{tasks_in, flow_rate, flow_in, flow_of}
 use Rattle.series_flows.specs.Amounts.{over_kinds}
@@ -24,11 +30,11 @@ use Rattle.series_routes.specs.Numbers.{some_below, is_in_use, goes_over}
 looked_up : {A : Type 0} (P : Fraction → Type 0) (is : A → Bool) (columns : List A) (values : List Fraction) → All P values → P (whole 0) → P (value_of is columns values)
 looked_up P is [] values all none = none
 looked_up P is (column ∷ columns) [] all none = none
-looked_up P is (column ∷ columns) (value ∷ values) all none = either (is column)
+looked_up P is (column ∷ columns) (value ∷ values) all none = either (is column) (All-head P value values all) (looked_up P is columns values (All-tail P value values all) none)
   where
-    either : (b : Bool) → P (cond b value (value_of is columns values))
-    either true = All-head P value values all
-    either false = looked_up P is columns values (All-tail P value values all) none
+    either : (b : Bool) → P value → P (value_of is columns values) → P (cond b value (value_of is columns values))
+    either true here rest = here
+    either false here rest = rest
 
 -- a test of the items of a list and of its numbers
 any_append : {A : Type 0} (test : A → Bool) (xs : List A) (x : A) → list_any test (xs ++ x ∷ []) ≡ (list_any test xs || test x)
@@ -72,8 +78,8 @@ none_together ticks value some divides =
 module _ (t : TimedView) (series : Series) (values : List Fraction) (ticks : ℕ) (some : 1 ≤ ticks) (whole_ones : All (λ (value : Fraction). value.den ∣ ticks) values) where
   -- a rate of the links is whole in the ticks
   rate_whole : (series : Series) (kind link : ℕ) → (flow_rate t series values kind link).den ∣ ticks
-  rate_whole Tasking kind link = looked_up (λ (value : Fraction). value.den ∣ ticks) _ _ values whole_ones (one-dvd ticks)
-  rate_whole Scatter kind link = looked_up (λ (value : Fraction). value.den ∣ ticks) _ _ values whole_ones (one-dvd ticks)
+  rate_whole Tasking kind link = looked_up (λ (value : Fraction). value.den ∣ ticks) (same_task_column (task.Flows link)) (task_columns t) values whole_ones (one-dvd ticks)
+  rate_whole Scatter kind link = looked_up (λ (value : Fraction). value.den ∣ ticks) (same_message_column (message.Flows link kind)) (message_columns t) values whole_ones (one-dvd ticks)
 
   abbrev flows : List Flow
   flows = first_terms (flow_of t series values ticks) (kinds_of t series)

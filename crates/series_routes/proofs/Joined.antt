@@ -26,7 +26,7 @@ use Rattle.series_routes.proofs.Walks.{comes_to, are_routes}
 own_tasks : (kind other : ℕ) (routes : List Route) → All (λ (route : Route). route.kind ≡ kind) routes → tasks_of_kind other routes ≡ cond (nat_eq kind other) (sum_by (λ (route : Route). route.count) routes) 0
 own_tasks kind other [] same = none (nat_eq kind other)
   where
-    none : (b : Bool) → 0 ≡ cond b 0 0
+    none : (b : Bool) → zero ≡ cond b zero zero
     none true = refl
     none false = refl
 own_tasks kind other (route ∷ routes) same =
@@ -45,7 +45,7 @@ module _ (t : TimedView) (timed : IsTimed t) (series : Series) (flow uses : ℕ 
   abbrev all_used : ℕ → ℕ
   all_used kind = total_below (length t.platform.nodes) (uses kind)
 
-  few_used : (kind : ℕ) → kind < kinds_of t series → all_used kind ≤ 32 * ticks
+  pub few_used : (kind : ℕ) → kind < kinds_of t series → all_used kind ≤ 32 * ticks
   few_used kind known =
       let most = total_within (length t.platform.nodes) (uses kind) ticks (λ node l. amounts.little kind node known l) in
       let nodes : length t.platform.nodes * ticks ≤ 32 * ticks = mul-le-mul_right ticks timed.platform.few_nodes in

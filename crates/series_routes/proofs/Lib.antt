@@ -6,3 +6,5 @@ pub mod Totals
 pub mod Walks
 pub mod WeightsFit
 pub mod Joined
+pub mod Routed
+pub mod Flows

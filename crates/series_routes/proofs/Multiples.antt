@@ -1,19 +1,22 @@
 -- Least common multiples of lists.
-use Rattle.std.proofs.Common.{◌≡◌, ℕ, zero, suc, ◌+◌, ◌*◌, ◌/◌, ◌^◌, ◌<◌, ◌≤◌, nat_le, Bool, true, false, cond, List, [], ◌∷◌, ◌++◌, All, Result, Ok, Err, refl, sym, ap, ◌∙◌, subst, arith, inl, inr}
+use Rattle.std.proofs.Common.{◌≡◌, ℕ, zero, suc, ◌+◌, ◌*◌, ◌/◌, ◌%◌, ◌^◌, ◌<◌, ◌≤◌, nat_le, Bool, true, false, cond, List, [], ◌∷◌, ◌++◌, map, All, Result, Ok, Err, refl, sym, ap, ◌∙◌, subst, arith, inl, inr}
 use Prim.Native.Nat.{◌∣◌}
 use Rattle.std.proofs.Math.Nat.{div-le_self}
 use Rattle.std.proofs.lemmas.Bool.{cases_lt}
 use Rattle.std.proofs.lemmas.List.{append-nil}
-use Rattle.std.proofs.lemmas.Nat.Gcd.{dvd_of_mod-eq-zero, dvd_trans, dvd_refl}
-use Rattle.std.proofs.lemmas.List.Elements.{All-head, All-tail, All-cons, All-nil}
-use Rattle.ratio_core.specs.Fraction.{gcd_of}
+use Rattle.std.proofs.lemmas.Nat.Gcd.{dvd_of_mod-eq-zero, mod-eq-zero_of_dvd, dvd_trans, dvd_refl}
+use Rattle.std.proofs.lemmas.List.Elements.{All-head, All-tail, All-cons, All-nil, All-weaker}
+use Rattle.ratio_core.specs.Fraction.{Fraction, gcd_of}
 use Rattle.ratio_core.specs.Multiples.{IsLeastCommonMultiple, lcm_of}
+use Rattle.platform_file.specs.Ticks.{TimedView}
+use Rattle.schedule_model.specs.declared.schedule.Series.{Series}
 use Rattle.programme_rows.specs.Listings.{each_where}
 use Rattle.series_flows.proofs.Terms.{true_or_false}
 use Rattle.series_routes.specs.declared.numbers.PeriodStep.{PeriodStep}
 use Rattle.series_routes.specs.declared.numbers.TableFault.{TableFault}
 use Rattle.series_routes.specs.declared.numbers.TableFault.TheVariants.{Period}
-use Rattle.series_routes.specs.Numbers.{multiple_of, and_then}
+use Rattle.series_routes.specs.declared.numbers.PeriodStep.TheVariants.{Denominators, Costs}
+use Rattle.series_routes.specs.Numbers.{multiple_of, common_denominator, costs_in_use, common_cost, product_of, and_then, scale_of}
 
 ok_same : (r : Result ℕ TableFault) (a b : ℕ) → r ≡ Ok a → r ≡ Ok b → a ≡ b
 ok_same r a b e f = cc
@@ -54,16 +57,48 @@ divides_multiple law step left (right ∷ numbers) multiple some each e =
       | inr passes ↦ let bad : Err (Period step left right) ≡ Ok multiple = rw passes at e in absurd cc
     ]
 
+pub each_mapped : {A B : Type 0} (P : B → Type 0) (f : A → B) (xs : List A) → All P (map f xs) → All (λ x. P (f x)) xs
+each_mapped P f [] all = All-nil (λ x. P (f x))
+each_mapped P f (x ∷ xs) all = All-cons (λ y. P (f y)) x xs (All-head P (f x) (map f xs) all) (each_mapped P f xs (All-tail P (f x) (map f xs) all))
+
+-- each denominator is a divisor of the common one
+pub denominators_divide : ((a b : ℕ) → 1 ≤ a → 1 ≤ b → IsLeastCommonMultiple a b (lcm_of a b)) → (values : List Fraction) (ticks : ℕ) → common_denominator values ≡ Ok ticks → 1 ≤ ticks → All (λ (value : Fraction). value.den ∣ ticks) values
+denominators_divide law values ticks e some =
+    each_mapped (λ n. n ∣ ticks) (λ (value : Fraction). value.den) values
+    (divides_multiple law Denominators 1 (map (λ (value : Fraction). value.den) values) ticks (omega arith) (some_factors Denominators 1 (map (λ (value : Fraction). value.den) values) ticks e some).1 e).1
+
+pub remainders : (values : List Fraction) (ticks : ℕ) → All (λ (value : Fraction). value.den ∣ ticks) values → All (λ (value : Fraction). ticks % value.den ≡ 0) values
+remainders values ticks whole = All-weaker (λ (value : Fraction). value.den ∣ ticks) (λ (value : Fraction). ticks % value.den ≡ 0) (λ (value : Fraction) divides. mod-eq-zero_of_dvd value.den divides) values whole
+
+-- and each cost in use of the common cost
+pub costs_divide : ((a b : ℕ) → 1 ≤ a → 1 ≤ b → IsLeastCommonMultiple a b (lcm_of a b)) → (t : TimedView) (series : Series) (values : List Fraction) (times : ℕ) → common_cost t series values ≡ Ok times → 1 ≤ times →
+    All (λ n. n ∣ times) (costs_in_use t series values)
+costs_divide law t series values times e some =
+    (divides_multiple law Costs 1 (costs_in_use t series values) times (omega arith) (some_factors Costs 1 (costs_in_use t series values) times e some).1 e).1
+
+-- ---- step by step
+
+pub fault_in_costs : (t : TimedView) (series : Series) (values : List Fraction) (ticks : ℕ) (fault : TableFault) → common_denominator values ≡ Ok ticks → common_cost t series values ≡ Err fault → scale_of t series values ≡ Err fault
+fault_in_costs t series values ticks fault e f = rw (e, f) refl
+
+pub fault_in_product : (t : TimedView) (series : Series) (values : List Fraction) (ticks times : ℕ) (fault : TableFault) → common_denominator values ≡ Ok ticks → common_cost t series values ≡ Ok times →
+    product_of ticks times ≡ Err fault → scale_of t series values ≡ Err fault
+fault_in_product t series values ticks times fault e f g = rw (e, f, g) refl
+
+pub all_steps : (t : TimedView) (series : Series) (values : List Fraction) (ticks times period : ℕ) → common_denominator values ≡ Ok ticks → common_cost t series values ≡ Ok times →
+    product_of ticks times ≡ Ok period → scale_of t series values ≡ Ok (record { ticks = ticks; times = times })
+all_steps t series values ticks times period e f g = rw (e, f, g) refl
+
 -- ---- number by number
 
 -- the multiple of two lists goes on from that of the first
 multiple_append : (step : PeriodStep) (left : ℕ) (xs ys : List ℕ) → multiple_of step left (xs ++ ys) ≡ and_then (multiple_of step left xs) (λ m. multiple_of step m ys)
 multiple_append step left [] ys = refl
-multiple_append step left (x ∷ xs) ys = by_fit (nat_le (lcm_of left x) (2 ^ 100))
+multiple_append step left (x ∷ xs) ys = by_fit (nat_le (lcm_of left x) (2 ^ 100)) (multiple_append step (lcm_of left x) xs ys)
   where
-    by_fit : (b : Bool) → cond b (multiple_of step (lcm_of left x) (xs ++ ys)) (Err (Period step left x)) ≡ and_then (cond b (multiple_of step (lcm_of left x) xs) (Err (Period step left x))) (λ m. multiple_of step m ys)
-    by_fit true = multiple_append step (lcm_of left x) xs ys
-    by_fit false = refl
+    by_fit : (b : Bool) → multiple_of step (lcm_of left x) (xs ++ ys) ≡ and_then (multiple_of step (lcm_of left x) xs) (λ m. multiple_of step m ys) → cond b (multiple_of step (lcm_of left x) (xs ++ ys)) (Err (Period step left x)) ≡ and_then (cond b (multiple_of step (lcm_of left x) xs) (Err (Period step left x))) (λ m. multiple_of step m ys)
+    by_fit true rest = rest
+    by_fit false rest = refl
 
 module _ (step : PeriodStep) (passes : ℕ → Bool) (f : ℕ → ℕ) where
   abbrev pub so_far : ℕ → Result ℕ TableFault

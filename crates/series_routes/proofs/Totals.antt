@@ -11,6 +11,10 @@ use Rattle.programme_rows.proofs.Totals.{no_total, same_total, total_plus}
 
 -- ---- sums
 
+pub total_times : (n : ℕ) (f : ℕ → ℕ) (b : ℕ) → total_below n (λ k. f k * b) ≡ total_below n f * b
+total_times zero f b = omega arith
+total_times (suc n) f b = let before = total_times n f b in omega (arith, before)
+
 pub total_within : (n : ℕ) (f : ℕ → ℕ) (b : ℕ) → ((k : ℕ) → k < n → f k ≤ b) → total_below n f ≤ n * b
 total_within zero f b h = omega arith
 total_within (suc n) f b h = let before = total_within n f b (λ k l. h k (omega arith)) in let last = h n (omega arith) in omega (arith, before, last)

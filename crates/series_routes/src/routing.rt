@@ -1,6 +1,6 @@
 //! The routes of a solution.
 
-ghost use Rattle.std.specs.Prelude.{◌≡◌, ℕ, ◌<◌, ◌≤◌, ◌++◌, ◌⊎◌, All, length, Err, IfOk, IfErr, OnOk};
+ghost use Rattle.std.specs.Prelude.{◌≡◌, ℕ, ◌<◌, ◌≤◌, ◌++◌, ◌⊎◌, All, length, false, Err, IfOk, IfErr, OnOk};
 ghost use Rattle.exact_simplex.specs.Optima.{first_terms};
 ghost use Rattle.flow_routes.specs.Flows.{IsFlow};
 ghost use Rattle.series_flows.specs.Programmes.{lacks_targets, kinds_of};
