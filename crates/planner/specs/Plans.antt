@@ -7,6 +7,7 @@ use Rattle.exact_simplex.specs.Answers.{answer_of}
 use Rattle.exact_simplex.specs.Bland.{bland_run}
 use Rattle.exact_simplex.specs.declared.fault.SolveFault.{SolveFault}
 use Rattle.schedule_model.specs.declared.schedule.Series.{Series}
+use Rattle.series_flows.specs.declared.fault.ProgrammeFault.{ProgrammeFault}
 use Rattle.planner.specs.declared.fault.PlanFault.{PlanFault}
 use Rattle.series_routes.specs.declared.numbers.Scale.{Scale}
 use Rattle.series_routes.specs.declared.numbers.TableFault.{TableFault}
@@ -23,6 +24,11 @@ plan_fault_text (PlanFault.Pivot pivots row column) = codes "pivot overflow afte
 plan_fault_text (PlanFault.Spent limit) = codes "pivot limit " ++ (decimal limit ++ codes " spent")
 plan_fault_text (PlanFault.Period step left right) = codes "period overflow at " ++ (step_text step ++ (codes ": " ++ (decimal left ++ (codes " and " ++ decimal right))))
 plan_fault_text PlanFault.NoMemory = codes "out of memory"
+
+-- why there is no plan where there is no programme
+abbrev pub programme_fault : ProgrammeFault → PlanFault
+programme_fault ProgrammeFault.NoTargets = PlanFault.NoTargets
+programme_fault ProgrammeFault.NoMemory = PlanFault.NoMemory
 
 -- why there is no plan where the programme isn't solved
 abbrev pub plan_fault : SolveFault → PlanFault

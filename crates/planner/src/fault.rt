@@ -1,8 +1,9 @@
 //! Why a platform isn't planned.
 
-use crate::numbers::{PeriodStep, TableFault};
 use exact_simplex::SolveFault;
 use listed::NoMemory;
+use series_flows::ProgrammeFault;
+use series_routes::{PeriodStep, TableFault};
 use std::fmt;
 
 /// Why a platform isn't planned. `Display` writes the line that names the fault, without a line feed.
@@ -64,6 +65,20 @@ impl From<NoMemory> for PlanFault {
 
     fn from(_error: NoMemory) -> PlanFault {
         PlanFault::NoMemory
+    }
+}
+
+impl From<ProgrammeFault> for PlanFault {
+    ghost use Rattle.std.specs.Prelude.{◌≡◌};
+    ghost use Rattle.planner.specs.Plans.{programme_fault};
+
+    ghost from_gives = { λ error fault. fault ≡ programme_fault error };
+
+    fn from(error: ProgrammeFault) -> PlanFault {
+        match error {
+            ProgrammeFault::NoTargets => PlanFault::NoTargets,
+            ProgrammeFault::NoMemory => PlanFault::NoMemory,
+        }
     }
 }
 

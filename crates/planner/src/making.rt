@@ -9,15 +9,12 @@ ghost use Rattle.period_table.specs.TableSchedules.{table_schedule};
 ghost use Rattle.series_flows.specs.Programmes.{programme_of, lacks_targets};
 ghost use Rattle.series_routes.specs.Numbers.{scale_of};
 ghost use Rattle.series_flows.specs.Points.{IsPoint};
-ghost use Rattle.planner.specs.Solutions.{IsRouting, IsSolution};
+ghost use Rattle.series_routes.specs.Solutions.{IsRouting};
+ghost use Rattle.planner.specs.Solutions.{IsSolution};
 ghost use Rattle.series_routes.specs.Loads.{weights_of};
 ghost use Rattle.planner.specs.Making.{AreFirstParts, table_with, IsTableOf};
 
-use crate::numbers::{Scale, TableFault};
-use crate::routing::routing_of;
 use crate::scaling::{common_factor, scaled_parts, scaled_routes};
-use crate::steadying::points_are_amounts;
-use crate::weighing::weights_of;
 use bipartite_slots::{SlotPart, slots};
 use flow_routes::Route;
 use listed::NoMemory;
@@ -25,6 +22,8 @@ use period_table::{Table, cut, cuts_keep_ports, kind_within, longest, table_sche
 use platform_file::Timed;
 use ratio_core::Ratio;
 use schedule_model::Series;
+use series_flows::points_are_amounts;
+use series_routes::{Scale, TableFault, routing_of, weights_of};
 use std::alloc::Global;
 
 /// The table of some routes and parts, in lowest terms.

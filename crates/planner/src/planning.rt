@@ -10,10 +10,10 @@ use crate::fault::PlanFault;
 use crate::making::table_of;
 use crate::planned::Plan;
 use crate::pricing::solution;
-use crate::programme::prices_bound_rates;
 use period_table::fitting_tables_hold;
 use platform_file::Timed;
 use schedule_model::Series;
+use series_flows::prices_bound_rates;
 use std::alloc::Global;
 
 /// The plan of a platform: a periodic table whose rate of `tasks / period` tasks per tick no schedule exceeds, of any resolution, length

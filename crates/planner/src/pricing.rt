@@ -12,12 +12,12 @@ ghost use Rattle.planner.specs.Plans.{solution_of};
 ghost use Rattle.planner.specs.Prices.{prices_of, IsBestCertificate};
 
 use crate::fault::PlanFault;
-use crate::programme::{prices_bound_rates, programme_of};
 use dense_tableau::Dense;
 use exact_simplex::{SolveFault, solve};
 use linear_program::{Certificate, Lp, Optimum, Tableau};
 use platform_file::Timed;
 use schedule_model::Series;
+use series_flows::{prices_bound_rates, programme_of};
 use std::alloc::Global;
 
 /// Solves a bounded programme over a tableau of whole rows.

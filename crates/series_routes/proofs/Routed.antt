@@ -165,6 +165,6 @@ are_used t timed Tasking values scale routes amounts routed some_ticks some_time
 are_used t timed Scatter values scale routes amounts routed some_ticks some_times short whole_ones costs = (
   amounts.some_kind,
   λ kind known.
-  first_tasks t timed Scatter values scale routes amounts routed some_ticks some_times short whole_ones costs
-  ∙ sym (amounts.used kind known) ∙ sym (tasks_are t timed Scatter values scale routes amounts routed some_ticks some_times short whole_ones costs kind known),
+      first_tasks t timed Scatter values scale routes amounts routed some_ticks some_times short whole_ones costs
+      ∙ sym (amounts.used kind known) ∙ sym (tasks_are t timed Scatter values scale routes amounts routed some_ticks some_times short whole_ones costs kind known),
 )

@@ -119,7 +119,11 @@ pub(crate) fn common_cost(timed: &Timed, flows: &[Flow]) -> Result<u128, TableFa
     let mut common = 1;
     for link in 0..timed.platform().links().len() {
         if is_in_use(flows, link) {
-            common = multiple(PeriodStep::Costs, common, u128::from(timed.cost(link as u32)))?;
+            common = multiple(
+                PeriodStep::Costs,
+                common,
+                u128::from(timed.cost(link as u32)),
+            )?;
         }
     }
     Ok(common)

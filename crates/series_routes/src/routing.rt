@@ -1,13 +1,13 @@
 //! The routes of a solution.
 
-ghost use Rattle.std.specs.Prelude.{◌≡◌, ℕ, ◌<◌, ◌≤◌, ◌++◌, ◌⊎◌, All, length, false, Err, IfOk, IfErr, OnOk};
+ghost use Rattle.std.specs.Prelude.{◌≡◌, ℕ, ◌<◌, ◌≤◌, ◌++◌, ◌⊎◌, All, length, false, pos, ◌*ℤ◌, Err, IfOk, IfErr, OnOk};
 ghost use Rattle.exact_simplex.specs.Optima.{first_terms};
 ghost use Rattle.flow_routes.specs.Flows.{IsFlow};
-ghost use Rattle.series_flows.specs.Programmes.{lacks_targets, kinds_of};
-ghost use Rattle.series_flows.specs.Flows.{flow_of};
+ghost use Rattle.linear_program.specs.Programmes.{gain_value};
+ghost use Rattle.series_flows.specs.Programmes.{programme_of, lacks_targets};
 ghost use Rattle.series_routes.specs.Numbers.{scale_of};
 ghost use Rattle.series_flows.specs.Points.{IsPoint};
-ghost use Rattle.series_routes.specs.Routings.{AreRoutesBelow, IsRoutedIn};
+ghost use Rattle.series_routes.specs.Routings.{tasks_of_kind, AreRoutesBelow, IsRoutedIn};
 ghost use Rattle.series_routes.specs.Solutions.{IsRouting};
 
 use crate::numbers::{Scale, TableFault, common_cost, common_denominator, product};
@@ -86,6 +86,9 @@ pub fn routing_of(
     requires point { IsPoint timed.now series values.now }
     ensures routed { IfOk result (λ r. IsRoutedIn timed.now series values.now r.scale r.routes) }
     ensures routing { IfOk result (λ r. IsRouting timed.now series r.scale r.routes) }
+    ensures gain { IfOk result
+        (λ r. (p : IsPoint timed.now series values.now)
+        → pos p.den *ℤ pos (tasks_of_kind 0 r.routes) ≡ pos r.scale.ticks *ℤ gain_value (programme_of timed.now series) p.point) }
     ensures fault { IfErr result (λ fault. (fault ≡ TableFault.NoMemory) ⊎ (scale_of timed.now series values.now ≡ Err fault)) }
 {
     timed.known();

@@ -42,11 +42,7 @@ fn loads_of(routes: &[Route]) -> [u128; LINKS]
 }
 
 /// For how long some routes have each link in use, as weights from its sender to its receiver.
-pub fn weights_of(
-    alloc: Global,
-    timed: &Timed,
-    routes: &[Route],
-) -> Result<Weights, NoMemory>
+pub fn weights_of(alloc: Global, timed: &Timed, routes: &[Route]) -> Result<Weights, NoMemory>
     requires links { All (λ route. All (λ link. link < 128) route.links) routes.now }
     requires room { (link : ℕ) → link < 128 → carried link routes.now < 2 ^ 128 }
     requires time { (link : ℕ) → link < 128 → cost_of timed.now link * carried link routes.now < 2 ^ 128 }

@@ -1,4 +1,4 @@
-use Rattle.std.proofs.Common.{rules, ◌≡◌, ℕ, ◌*◌, ◌≤◌, ◌^◌, length, Ok, Err, sym, ap, ◌∙◌, subst, inr}
+use Rattle.std.proofs.Common.{rules, ◌≡◌, ℕ, ◌*◌, ◌≤◌, ◌^◌, length, Ok, Err, pos, ◌*ℤ◌, sym, ap, ◌∙◌, subst, inr}
 use Rattle.schedule_model.specs.Operations.{cost_of}
 use Rattle.exact_simplex.specs.Optima.{first_terms}
 use Rattle.programme_rows.specs.Listings.{each_where}
@@ -11,7 +11,7 @@ use Rattle.series_routes.specs.Numbers.{goes_over, multiple_of, common_denominat
 use Rattle.series_routes.specs.Routings.{AreRoutesBelow}
 use Rattle.series_routes.proofs.Multiples.{denominators_divide, remainders, costs_divide, fault_in_costs, fault_in_product, all_steps}
 use Rattle.series_routes.proofs.Flows.{all_long, all_flows, same_cost}
-use Rattle.series_routes.proofs.Routed.{is_routing, are_used}
+use Rattle.series_routes.proofs.Routed.{first_tasks, is_routing, are_used}
 use Rattle.series_routes.proofs.routing.routing_of.Goals as goal
 
 pub flows_of-requires-clause-small : goal.flows_of-requires-clause-small
@@ -110,3 +110,24 @@ returns-clause-routing c =
     let divided = costs_divide c.multiples_are_least.ensures t series values c.in_ok-times.times times c.in_ok-times.ensures.some in
     is_routing t c.known.ensures series values scale c.in_ok-routes.routes amounts routed c.in_ok-ticks.ensures.some c.in_ok-times.ensures.some short whole divided
     (are_used t c.known.ensures series values scale c.in_ok-routes.routes amounts routed c.in_ok-ticks.ensures.some c.in_ok-times.ensures.some short whole divided)
+
+pub returns-clause-gain : goal.returns-clause-gain
+returns-clause-gain c =
+    let t = c.args.timed.now in
+    let series = c.args.series in
+    let values = c.args.values.now in
+    let ticks = c.in_ok-ticks.ticks in
+    let common : common_denominator values ≡ Ok ticks = sym c.in_ok-ticks.ensures.value in
+    let whole = denominators_divide c.multiples_are_least.ensures values ticks common c.in_ok-ticks.ensures.some in
+    let amounts = c.points_are_amounts.ensures.amounts t series values ticks c.known.ensures c.requires.targets c.requires.point (remainders values ticks whole) in
+    let costs = ap (λ flows. multiple_of Costs 1 (each_where (goes_over flows) (cost_of t) (length t.platform.links))) (c.as_slice.ensures ∙ c.in_ok-flows.ensures) ∙ same_cost t series values ticks c.in_ok-ticks.ensures.some whole in
+    let times : common_cost t series values ≡ Ok c.in_ok-times.times = sym (c.in_ok-times.ensures.value ∙ costs) in
+    let scaled : scale_of t series values ≡ Ok (record { ticks = ticks; times = c.in_ok-times.times }) = all_steps t series values ticks c.in_ok-times.times c.in_ok-product.field-0 common times (sym c.in_ok-product.ensures.value) in
+    let flows : c.as_slice-2.result.now ≡ first_terms (flow_of t series values ticks) (kinds_of t series) = c.as_slice-2.ensures ∙ c.in_ok-flows.ensures in
+    let long : length c.as_slice-2.result.now ≡ kinds_of t series = ap length flows ∙ length_terms (flow_of t series values ticks) (kinds_of t series) in
+    let routed = subst (λ n. AreRoutesBelow (flow_of t series values ticks) n c.in_ok-routes.routes) long (c.in_ok-routes.ensures (flow_of t series values ticks) (flows ∙ ap (first_terms (flow_of t series values ticks)) (sym long))) in
+    let scale : Scale = record { ticks = ticks; times = c.in_ok-times.times } in
+    let short : ticks * c.in_ok-times.times ≤ 2 ^ 100 = rw (← c.in_ok-product.ensures.period.0) c.in_ok-product.ensures.period.1 in
+    let divided = costs_divide c.multiples_are_least.ensures t series values c.in_ok-times.times times c.in_ok-times.ensures.some in
+    λ p. ap (λ n. pos p.den *ℤ pos n) (first_tasks t c.known.ensures series values scale c.in_ok-routes.routes amounts routed c.in_ok-ticks.ensures.some c.in_ok-times.ensures.some short whole divided)
+    ∙ c.points_are_amounts.ensures.gain t series values ticks c.known.ensures c.requires.targets p (remainders values ticks whole)
