@@ -4,5 +4,6 @@ pub mod Divided
 pub mod LanesCarry
 pub mod Divisors
 pub mod Rooms
+pub mod Parted
 pub mod Made
 pub mod Rated
