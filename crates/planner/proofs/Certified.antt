@@ -26,6 +26,7 @@ is_point t series o optimal = record {
 }
 
 pub is_best : (limit : ℕ) (t : TimedView) (series : Series) (o : Optimum) → solution_of limit t series ≡ Some (Ok o) → IsOptimal (programme_of t series) o → IsBestCertificate limit t series o.certificate
+unfolding is_point
 is_best limit t series o solved optimal = record {
   solution = o;
   solved = solved;

@@ -14,15 +14,15 @@ use Rattle.series_routes.specs.declared.numbers.TableFault.{TableFault}
 use Rattle.series_routes.specs.declared.numbers.TableFault.TheVariants as table
 use Rattle.planner.specs.declared.planned.Plan.{Plan}
 use Rattle.series_flows.specs.Programmes.{programme_of, lacks_targets}
-use Rattle.series_routes.specs.Numbers.{step_text, scale_of}
+use Rattle.series_routes.specs.Numbers.{table_fault_text, scale_of}
 use Rattle.planner.specs.Making.{IsTableOf}
 
 -- the line that names why a platform isn't planned
 abbrev pub plan_fault_text : PlanFault → List ℕ
-plan_fault_text PlanFault.NoTargets = codes "no targets"
+plan_fault_text PlanFault.NoTargets = codes "platform: no targets"
 plan_fault_text (PlanFault.Pivot pivots row column) = codes "pivot overflow after " ++ (decimal pivots ++ (codes " pivots at cell " ++ (decimal row ++ (codes " " ++ decimal column))))
 plan_fault_text (PlanFault.Spent limit) = codes "pivot limit " ++ (decimal limit ++ codes " spent")
-plan_fault_text (PlanFault.Period step left right) = codes "period overflow at " ++ (step_text step ++ (codes ": " ++ (decimal left ++ (codes " and " ++ decimal right))))
+plan_fault_text (PlanFault.Period step left right) = table_fault_text (table.Period step left right)
 plan_fault_text PlanFault.NoMemory = codes "out of memory"
 
 -- why there is no plan where there is no programme

@@ -39,7 +39,7 @@ impl fmt::Display for PlanFault {
 
     fn fmt<W: fmt::Write>(&self, f: &mut fmt::Formatter<W>) -> fmt::Result {
         match self {
-            PlanFault::NoTargets => write!(f, "no targets"),
+            PlanFault::NoTargets => write!(f, "platform: no targets"),
             PlanFault::Pivot {
                 pivots,
                 row,
@@ -50,7 +50,8 @@ impl fmt::Display for PlanFault {
             ),
             PlanFault::Spent { limit } => write!(f, "pivot limit {limit} spent"),
             PlanFault::Period { step, left, right } => {
-                write!(f, "period overflow at {step}: {left} and {right}")
+                let (step, left, right) = (*step, *left, *right);
+                fmt::Display::fmt(&TableFault::Period { step, left, right }, f)
             }
             PlanFault::NoMemory => write!(f, "out of memory"),
         }

@@ -13,3 +13,4 @@ pub use making::table_of;
 pub use planned::Plan;
 pub use planning::plan;
 pub use pricing::prices;
+pub use series_routes::{PeriodStep, TableFault};

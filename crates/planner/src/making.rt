@@ -22,7 +22,6 @@ use period_table::{Table, cut, cuts_keep_ports, kind_within, longest, table_sche
 use platform_file::Timed;
 use ratio_core::Ratio;
 use schedule_model::Series;
-use series_flows::points_are_amounts;
 use series_routes::{Scale, TableFault, routing_of, weights_of};
 use std::alloc::Global;
 
@@ -105,7 +104,6 @@ pub fn table_of(
         (λ table. (n : ℕ) → (n - table.depth) * table.tasks ≤ completed timed.now series (table_schedule timed.now series table n)) }
 {
     timed.known();
-    points_are_amounts();
     table_schedules_hold();
     let routing = routing_of(alloc, timed, series, values)?;
     let routes = routing.routes.as_slice();
