@@ -24,8 +24,8 @@ pub fn tasks_within(routes: &[Route]) -> u128
     sum
 }
 
-/// The tasks or messages of the routes of one kind.
-pub(crate) fn kind_within(routes: &[Route], kind: u32) -> u128
+/// The tasks or messages of the routes of one kind, or 2^107 + 1 where they are more than 2^107.
+pub fn kind_within(routes: &[Route], kind: u32) -> u128
     ensures { result ≡ min (sum_by (λ route. cond (nat_eq route.kind kind) route.count 0) routes.now) (2 ^ 107 + 1) }
 {
     let mut sum: u128 = 0;

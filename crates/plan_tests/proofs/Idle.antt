@@ -10,7 +10,8 @@ use Rattle.linear_program.specs.Duality.{IsFeasible}
 use Rattle.linear_program.proofs.Sums.{zero_sum}
 use Rattle.tasking_program.specs.Columns.{columns_of}
 use Rattle.tasking_program.specs.Programme.{tasking_programme}
-use Rattle.planner.specs.Points.{IsPoint}
+use Rattle.schedule_model.specs.declared.schedule.Series.TheVariants.{Tasking}
+use Rattle.series_flows.specs.Points.{IsPoint}
 
 idle_is_feasible : (p : LpView) → IsLp p → IsFeasible p (λ j. 0) 1
 idle_is_feasible p lp = All-weaker (IsRow p.columns) (λ (row : RowView). row_value p.columns row (λ j. 0) ≤ℤ (row.rhs *ℤ pos 1)) each p.rows lp.rows
@@ -28,7 +29,7 @@ idle_is_feasible p lp = All-weaker (IsRow p.columns) (λ (row : RowView). row_va
     each : (row : RowView) → IsRow p.columns row → row_value p.columns row (λ j. 0) ≤ℤ (row.rhs *ℤ pos 1)
     each row is = bounded (row_value p.columns row (λ j. 0)) row.rhs (zero_sum p.columns (λ j. cell_at row.cells j *ℤ pos 0) (λ j l. nothing (cell_at row.cells j))) is.side
 
-pub idle_is_point : (t : TimedView) → IsLp (tasking_programme t) → (values : List Fraction) → length values ≡ length (columns_of t) → All (λ (value : Fraction). value.num ≡ 0) values → IsPoint t values
+pub idle_is_point : (t : TimedView) → IsLp (tasking_programme t) → (values : List Fraction) → length values ≡ length (columns_of t) → All (λ (value : Fraction). value.num ≡ 0) values → IsPoint t Tasking values
 idle_is_point t lp values one_each idle = record {
   one_each = one_each;
   point = λ j. 0;

@@ -10,6 +10,7 @@ use Rattle.platform_file.specs.Ticks.{TimedView}
 use Rattle.flow_routes.specs.declared.flow.Route.{Route}
 use Rattle.bipartite_slots.specs.declared.weights.SlotPart.{SlotPart}
 use Rattle.programme_rows.proofs.Listings.{front, back}
+use Rattle.series_routes.proofs.Multiples.{each_mapped}
 use Rattle.planner.specs.Scales.{factor_with, part_numbers, common_factor}
 
 factor_divides : (common : ℕ) (numbers : List ℕ) → (factor_with common numbers ∣ common) × All (λ n. factor_with common numbers ∣ n) numbers
@@ -18,10 +19,6 @@ factor_divides common (number ∷ numbers) =
     let rest = factor_divides (gcd_of common number) numbers in
     let both = gcd_divides common number in
     (dvd_trans _ rest.0 both.0, All-cons (λ n. factor_with (gcd_of common number) numbers ∣ n) number numbers (dvd_trans _ rest.0 both.1) rest.1)
-
-pub each_mapped : {A B : Type 0} (P : B → Type 0) (f : A → B) (xs : List A) → All P (map f xs) → All (λ x. P (f x)) xs
-each_mapped P f [] all = All-nil (λ x. P (f x))
-each_mapped P f (x ∷ xs) all = All-cons (λ y. P (f y)) x xs (All-head P (f x) (map f xs) all) (each_mapped P f xs (All-tail P (f x) (map f xs) all))
 
 each_listed : {A B : Type 0} (P : B → Type 0) (f : A → List B) (xs : List A) → All P (flat_map f xs) → All (λ x. All P (f x)) xs
 each_listed P f [] all = All-nil (λ x. All P (f x))

@@ -6,14 +6,7 @@ use Rattle.flow_routes.specs.Routes.{carried}
 use Rattle.flow_routes.specs.declared.flow.Route.{Route}
 use Rattle.period_table.specs.Lanes.{LaneAt, lanes_from, lanes_of}
 use Rattle.period_table.specs.Cuts.{carried_on}
-use Rattle.planner.proofs.Terms.{true_or_false}
-
--- the tests are the same in both orders
-pub turned : (a b : ℕ) → nat_eq a b ≡ nat_eq b a
-turned a b = elim (true_or_false (nat_eq b a)) [
-  | inl is ↦ grind (arith, nat_tests)
-  | inr not ↦ grind (arith, nat_tests)
-]
+use Rattle.series_routes.proofs.Walks.{turned}
 
 route_carries : (link kind count hop : ℕ) (links : List ℕ) → carried_on link (lanes_from kind count hop links) ≡ count_by (nat_eq link) links * count
 route_carries link kind count hop [] = omega arith

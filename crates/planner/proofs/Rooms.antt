@@ -13,10 +13,11 @@ use Rattle.flow_routes.specs.declared.flow.Route.{Route}
 use Rattle.bipartite_slots.specs.Parts.{is_in}
 use Rattle.bipartite_slots.specs.declared.weights.SlotPart.{SlotPart}
 use Rattle.period_table.specs.Cuts.{room_in, room_of}
+use Rattle.series_routes.specs.Routings.{tasks_of_kind}
 use Rattle.planner.specs.Scales.{part_numbers, scaled_route, scaled_part}
-use Rattle.planner.proofs.Terms.{true_or_false}
+use Rattle.series_flows.proofs.Terms.{true_or_false}
 use Rattle.planner.proofs.Divided.{exchanged}
-use Rattle.planner.proofs.Divisors.{each_mapped}
+use Rattle.series_routes.proofs.Multiples.{each_mapped}
 
 -- what holds of all items holds of one that is found
 pub found_in : (P : ℕ → Type 0) (xs : List ℕ) → All P xs → (q : ℕ) → list_any (nat_eq q) xs ≡ true → P q
@@ -51,9 +52,14 @@ module _ (times g : ℕ) where
   some_count true route whole = one_count route whole
   some_count false route whole = omega arith
 
-  -- all tasks of a period, those that come to a node, and those over a link
+  -- all counts of a period, those of a kind, those that come to a node, and those over a link
   pub counts_scaled : (routes : List Route) → All Whole routes → sum_by (λ (route : Route). route.count) (map (scaled_route times g) routes) * g ≡ sum_by (λ (route : Route). route.count) routes * times
   counts_scaled routes whole = scaled_sum Whole (scaled_route times g) (λ route. route.count) (λ route. route.count) g times one_count routes whole
+
+  pub kinds_scaled : (kind : ℕ) (routes : List Route) → All Whole routes → tasks_of_kind kind (map (scaled_route times g) routes) * g ≡ tasks_of_kind kind routes * times
+  kinds_scaled kind routes whole =
+      scaled_sum Whole (scaled_route times g) (λ route. cond (nat_eq route.kind kind) route.count 0) (λ route. cond (nat_eq route.kind kind) route.count 0) g times
+      (λ route w. some_count (nat_eq route.kind kind) route w) routes whole
 
   pub ends_scaled : (node : ℕ) (routes : List Route) → All Whole routes →
       sum_by (λ (route : Route). cond (nat_eq route.end node) route.count 0) (map (scaled_route times g) routes) * g ≡ sum_by (λ (route : Route). cond (nat_eq route.end node) route.count 0) routes * times

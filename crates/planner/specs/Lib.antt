@@ -1,9 +1,5 @@
 pub mod Prices
-pub mod Numbers
-pub mod Flows
-pub mod Loads
 pub mod Scales
-pub mod Points
 pub mod Solutions
 pub mod Making
 pub mod Plans

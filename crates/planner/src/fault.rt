@@ -1,13 +1,16 @@
 //! Why a platform isn't planned.
 
-use crate::numbers::{PeriodStep, TableFault};
 use exact_simplex::SolveFault;
 use listed::NoMemory;
+use series_flows::ProgrammeFault;
+use series_routes::{PeriodStep, TableFault};
 use std::fmt;
 
 /// Why a platform isn't planned. `Display` writes the line that names the fault, without a line feed.
 #[derive(Clone, Copy, Debug, PartialEq, Eq)]
 pub enum PlanFault {
+    /// The platform has no target for the messages of a scatter.
+    NoTargets,
     /// After so many pivots the next one exceeds 2^127 - 1 in size, first at this cell of the tableau.
     Pivot {
         pivots: u64,
@@ -36,6 +39,7 @@ impl fmt::Display for PlanFault {
 
     fn fmt<W: fmt::Write>(&self, f: &mut fmt::Formatter<W>) -> fmt::Result {
         match self {
+            PlanFault::NoTargets => write!(f, "platform: no targets"),
             PlanFault::Pivot {
                 pivots,
                 row,
@@ -46,7 +50,8 @@ impl fmt::Display for PlanFault {
             ),
             PlanFault::Spent { limit } => write!(f, "pivot limit {limit} spent"),
             PlanFault::Period { step, left, right } => {
-                write!(f, "period overflow at {step}: {left} and {right}")
+                let (step, left, right) = (*step, *left, *right);
+                fmt::Display::fmt(&TableFault::Period { step, left, right }, f)
             }
             PlanFault::NoMemory => write!(f, "out of memory"),
         }
@@ -61,6 +66,20 @@ impl From<NoMemory> for PlanFault {
 
     fn from(_error: NoMemory) -> PlanFault {
         PlanFault::NoMemory
+    }
+}
+
+impl From<ProgrammeFault> for PlanFault {
+    ghost use Rattle.std.specs.Prelude.{◌≡◌};
+    ghost use Rattle.planner.specs.Plans.{programme_fault};
+
+    ghost from_gives = { λ error fault. fault ≡ programme_fault error };
+
+    fn from(error: ProgrammeFault) -> PlanFault {
+        match error {
+            ProgrammeFault::NoTargets => PlanFault::NoTargets,
+            ProgrammeFault::NoMemory => PlanFault::NoMemory,
+        }
     }
 }
 

@@ -2,18 +2,15 @@
 #![tactic(auto)]
 
 mod fault;
-mod flowing;
 mod making;
-mod numbers;
 mod planned;
 mod planning;
 mod pricing;
 mod scaling;
-mod weighing;
 
 pub use fault::PlanFault;
 pub use making::table_of;
-pub use numbers::{PeriodStep, TableFault};
 pub use planned::Plan;
 pub use planning::plan;
 pub use pricing::prices;
+pub use series_routes::{PeriodStep, TableFault};

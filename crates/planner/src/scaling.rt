@@ -8,6 +8,7 @@ use flow_routes::Route;
 use listed::{Listed, NoMemory};
 use platform_file::Timed;
 use ratio_core::gcd;
+use series_routes::copied;
 use std::alloc::Global;
 
 /// The greatest common divisor of a number and of the scaled counts of some routes.
@@ -55,17 +56,6 @@ pub(crate) fn common_factor(
         common = factor_of_part(timed, common, times, part);
     }
     common
-}
-
-/// A copy of some numbers.
-fn copied(alloc: Global, numbers: &[u32]) -> Result<Listed<u32>, NoMemory>
-    ensures { IfOk result (λ list. list ≡ numbers.now) }
-{
-    let mut list = Listed::new(alloc);
-    for number in numbers {
-        list.push(*number)?;
-    }
-    Ok(list)
 }
 
 /// The routes, each with so many times its count, divided by a number.

@@ -1,5 +1,5 @@
 -- The whole numbers by which a solution is scaled: the least common multiples of its denominators and of the costs of the links that carry something.
-use Rattle.std.specs.Prelude.{ℕ, zero, suc, ◌*◌, ◌^◌, Bool, false, not, ◌||◌, List, [], ◌∷◌, length, map, Result, Ok, Err, cond, nat_eq, nat_le, slice_index, codes}
+use Rattle.std.specs.Prelude.{ℕ, zero, suc, ◌*◌, ◌^◌, Bool, false, not, ◌||◌, List, [], ◌∷◌, ◌++◌, length, map, Result, Ok, Err, cond, nat_eq, nat_le, slice_index, codes, decimal}
 use Rattle.std.specs.List.{list_any}
 use Rattle.ratio_core.specs.Fraction.{Fraction}
 use Rattle.ratio_core.specs.Multiples.{lcm_of}
@@ -11,7 +11,7 @@ use Rattle.series_routes.specs.declared.numbers.PeriodStep.{PeriodStep}
 use Rattle.series_routes.specs.declared.numbers.PeriodStep.TheVariants.{Denominators, Costs, Product}
 use Rattle.series_routes.specs.declared.numbers.Scale.{Scale}
 use Rattle.series_routes.specs.declared.numbers.TableFault.{TableFault}
-use Rattle.series_routes.specs.declared.numbers.TableFault.TheVariants.{Period}
+use Rattle.series_routes.specs.declared.numbers.TableFault.TheVariants.{Period, NoMemory}
 use Rattle.flow_routes.specs.declared.flow.Flow.{Flow}
 use Rattle.series_flows.specs.Programmes.{kinds_of}
 use Rattle.series_flows.specs.Flows.{flow_rate}
@@ -21,6 +21,11 @@ abbrev pub step_text : PeriodStep → List ℕ
 step_text Denominators = codes "denominators"
 step_text Costs = codes "costs"
 step_text Product = codes "product"
+
+-- the line that names why a solution has no scale
+abbrev pub table_fault_text : TableFault → List ℕ
+table_fault_text (Period step left right) = codes "period overflow at " ++ (step_text step ++ (codes ": " ++ (decimal left ++ (codes " and " ++ decimal right))))
+table_fault_text NoMemory = codes "out of memory"
 
 -- the least common multiple of what stands so far and of the numbers that follow, in their order; the first number that makes it exceed 2^100 ends it
 abbrev pub multiple_of : PeriodStep → ℕ → List ℕ → Result ℕ TableFault

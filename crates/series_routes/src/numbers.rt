@@ -49,7 +49,7 @@ pub struct Scale {
     pub times: u128,
 }
 
-/// Why a solution has no table.
+/// Why a solution has no table. `Display` writes the line that names the fault, without a line feed.
 #[derive(Clone, Copy, Debug, PartialEq, Eq)]
 pub enum TableFault {
     /// Its period exceeds 2^100 ticks: at this step the multiple so far and the next number, or the two factors.
@@ -60,6 +60,22 @@ pub enum TableFault {
     },
     /// Memory ran out.
     NoMemory,
+}
+
+impl fmt::Display for TableFault {
+    ghost use Rattle.std.specs.Prelude.{Some};
+    ghost use Rattle.series_routes.specs.Numbers.{table_fault_text};
+
+    ghost output = { λ fault. Some (table_fault_text fault) };
+
+    fn fmt<W: fmt::Write>(&self, f: &mut fmt::Formatter<W>) -> fmt::Result {
+        match self {
+            TableFault::Period { step, left, right } => {
+                write!(f, "period overflow at {step}: {left} and {right}")
+            }
+            TableFault::NoMemory => write!(f, "out of memory"),
+        }
+    }
 }
 
 impl From<NoMemory> for TableFault {

@@ -25,6 +25,7 @@ IsOfReason other = ⊥
 of_reason : (reason : Reason) → IsOfReason (reason_status reason)
 of_reason (no_platform fault) = tt
 of_reason (no_ticks fault) = tt
+of_reason (no_plan plans.NoTargets) = tt
 of_reason (no_plan (plans.Pivot pivots row column)) = tt
 of_reason (no_plan (plans.Spent limit)) = tt
 of_reason (no_plan (plans.Period step left right)) = tt

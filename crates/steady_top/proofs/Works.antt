@@ -156,6 +156,7 @@ platform_fault command before after no_memory fault = record { calm = fault.caus
 
 -- a fault of the planner is why an outcome refuses
 pub planner_refuses : (outcome : Outcome) (fault : PlanFault) (refusal : Refusal) → ((fault ≡ plans.NoMemory → ⊥) → outcome ≡ refuses (plan_refusal fault)) → refusal ≡ plan_refusal fault → MayRefuse outcome refusal
+planner_refuses outcome plans.NoTargets refusal exact is = rw is (exact (λ e. cc))
 planner_refuses outcome (plans.Pivot pivots row column) refusal exact is = rw is (exact (λ e. cc))
 planner_refuses outcome (plans.Spent allowed) refusal exact is = rw is (exact (λ e. cc))
 planner_refuses outcome (plans.Period step left right) refusal exact is = rw is (exact (λ e. cc))
@@ -172,6 +173,7 @@ refused_is_cause command before after t second read told first no_memory is = re
 
 first_of_plan : (name : List ℕ) (series : Series) (pivots : ℕ) (t : TimedView) (fault : Option PlanFault) → opened (plan name series pivots) (planned pivots t fault) ≡ 1
 first_of_plan name series pivots t None = refl
+first_of_plan name series pivots t (Some plans.NoTargets) = refl
 first_of_plan name series pivots t (Some (plans.Pivot made row column)) = refl
 first_of_plan name series pivots t (Some (plans.Spent allowed)) = refl
 first_of_plan name series pivots t (Some (plans.Period step left right)) = refl
@@ -180,6 +182,7 @@ first_of_plan name series pivots t (Some plans.NoMemory) = refl
 first_of_prices : (name : List ℕ) (series : Series) (pivots : ℕ) (found : Option (Result CertificateView PlanFault)) → opened (prices name series pivots) (priced found) ≡ 1
 first_of_prices name series pivots None = refl
 first_of_prices name series pivots (Some (Ok c)) = refl
+first_of_prices name series pivots (Some (Err plans.NoTargets)) = refl
 first_of_prices name series pivots (Some (Err (plans.Pivot made row column))) = refl
 first_of_prices name series pivots (Some (Err (plans.Spent allowed))) = refl
 first_of_prices name series pivots (Some (Err (plans.Period step left right))) = refl
@@ -188,12 +191,12 @@ first_of_prices name series pivots (Some (Err plans.NoMemory)) = refl
 pub unplanned_is_cause : (before after : FilesView) (name : List ℕ) (series : Series) (pivots : ℕ) (t : TimedView) → IsPlatformRead before name after t → (refusal : Refusal) → MayRefuse (plan_of pivots t) refusal →
     IsCauseFor (plan name series pivots) before after refusal
 unplanned_is_cause before after name series pivots t read =
-    refused_is_cause (plan name series pivots) before after t (Some read.platform.bytes) read read.platform.file (first_of_plan name series pivots t (fault_of pivots t))
+    refused_is_cause (plan name series pivots) before after t (Some read.platform.bytes) read read.platform.file (first_of_plan name series pivots t (fault_of pivots t Tasking))
 
 pub unpriced_is_cause : (before after : FilesView) (name : List ℕ) (series : Series) (pivots : ℕ) (t : TimedView) → IsPlatformRead before name after t → (refusal : Refusal) → MayRefuse (certificate_for pivots t) refusal →
     IsCauseFor (prices name series pivots) before after refusal
 unpriced_is_cause before after name series pivots t read =
-    refused_is_cause (prices name series pivots) before after t (Some read.platform.bytes) read read.platform.file (first_of_prices name series pivots (prices_of pivots t))
+    refused_is_cause (prices name series pivots) before after t (Some read.platform.bytes) read read.platform.file (first_of_prices name series pivots (prices_of pivots t Tasking))
 
 -- a plan that is found is what the command prints
 pub planned_is_made : (before after : FilesView) (name : List ℕ) (series : Series) (most : ℕ) (t : TimedView) (text : List ℕ) → IsPlatformRead before name after t → IsBestPlan most t text →
@@ -207,8 +210,8 @@ planned_is_made before after name series most t text read found = record {
   opens = read.opens;
 }
   where
-    none : fault_of most t ≡ None
-    none = ap (option_and_then (fault_of_answer t)) found.made.solved ∙ ap fault_of_scale found.made.made.scaled
+    none : fault_of most t Tasking ≡ None
+    none = ap (option_and_then (fault_of_answer t Tasking)) found.made.solved ∙ ap fault_of_scale found.made.made.routed.scaled
 
 -- prices that are found are what the command prints
 pub priced_is_made : (before after : FilesView) (name : List ℕ) (series : Series) (most : ℕ) (t : TimedView) (text : List ℕ) → IsPlatformRead before name after t → IsBestPrices most t text →

@@ -69,7 +69,7 @@ pub record IsBestText (pivots : ℕ) (before : FilesView) (name text : List ℕ)
   pub timed : TimedView
   pub platform : IsPlatformOf before name timed
   pub plan : Plan
-  pub made : IsPlan pivots timed plan
+  pub made : IsPlan pivots timed Tasking plan
   pub best : IsBest timed Tasking plan.table
   pub is_plan : text ≡ plan_text timed Tasking plan.table
 
@@ -78,8 +78,8 @@ pub record IsPricedText (pivots : ℕ) (before : FilesView) (name text : List �
   pub timed : TimedView
   pub platform : IsPlatformOf before name timed
   pub certificate : CertificateView
-  pub run : prices_of pivots timed ≡ Some (Ok certificate)
-  pub best : IsBestCertificate timed certificate
+  pub run : prices_of pivots timed Tasking ≡ Some (Ok certificate)
+  pub best : IsBestCertificate pivots timed Tasking certificate
   pub rate : IsUpperRate timed Tasking (nat_abs certificate.best * timed.unit) (nat_abs certificate.scale)
   pub is_certificate : text ≡ certificate_text Tasking certificate
 

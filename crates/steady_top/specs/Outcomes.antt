@@ -89,12 +89,12 @@ planned pivots t (Some fault) = refuses (plan_refusal fault)
 
 -- what comes of a platform that is to be planned
 abbrev pub plan_of : ℕ → TimedView → Outcome
-plan_of pivots t = planned pivots t (fault_of pivots t)
+plan_of pivots t = planned pivots t (fault_of pivots t Tasking)
 
 -- the text is that of the platform's plan
 pub record IsPlanText (pivots : ℕ) (t : TimedView) (text : List ℕ) : Type 0 where
   pub plan : Plan
-  pub is : IsPlan pivots t plan
+  pub is : IsPlan pivots t Tasking plan
   pub is_text : text ≡ plan_text t Tasking plan.table
 
 -- the outcome lets the program print the text
@@ -127,7 +127,7 @@ priced None = refuses no_memory
 
 -- a platform's certificate of the best rate
 abbrev pub certificate_for : ℕ → TimedView → Outcome
-certificate_for pivots t = priced (prices_of pivots t)
+certificate_for pivots t = priced (prices_of pivots t Tasking)
 
 -- the line of a certificate that proves: its rate in tasks per tick, and the ticks of a time unit
 abbrev pub upper_text : TimedView → CertificateView → List ℕ

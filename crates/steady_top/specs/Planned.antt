@@ -130,15 +130,15 @@ pub record IsChecked (t : TimedView) (before : FilesView) (name : List ℕ) (aft
 -- the text is that of a plan of the platform, whose table is best
 pub record IsBestPlan (pivots : ℕ) (t : TimedView) (text : List ℕ) : Type 0 where
   pub plan : Plan
-  pub made : IsPlan pivots t plan
+  pub made : IsPlan pivots t Tasking plan
   pub best : IsBest t Tasking plan.table
   pub is_plan : text ≡ plan_text t Tasking plan.table
 
 -- the text is the certificate of the platform's best rate, which no schedule exceeds
 pub record IsBestPrices (pivots : ℕ) (t : TimedView) (text : List ℕ) : Type 0 where
   pub certificate : CertificateView
-  pub run : prices_of pivots t ≡ Some (Ok certificate)
-  pub best : IsBestCertificate t certificate
+  pub run : prices_of pivots t Tasking ≡ Some (Ok certificate)
+  pub best : IsBestCertificate pivots t Tasking certificate
   pub rate : IsUpperRate t Tasking (nat_abs certificate.best * t.unit) (nat_abs certificate.scale)
   pub is_certificate : text ≡ certificate_text Tasking certificate
 

@@ -73,6 +73,7 @@ plan_refusal fault = refused (no_plan fault)
 abbrev pub reason_status : Reason → Status
 reason_status (no_platform fault) = status.Platform
 reason_status (no_ticks fault) = status.Overflow
+reason_status (no_plan plans.NoTargets) = status.Platform
 reason_status (no_plan (plans.Spent limit)) = status.Spent
 reason_status (no_plan fault) = status.Overflow
 reason_status (check_overflow column) = status.Overflow

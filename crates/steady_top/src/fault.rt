@@ -182,7 +182,7 @@ impl TopFault<'_> {
     {
         match self {
             TopFault::Usage => Status::Usage,
-            TopFault::Platform(_) => Status::Platform,
+            TopFault::Platform(_) | TopFault::Plan(PlanFault::NoTargets) => Status::Platform,
             TopFault::Plan(PlanFault::Spent { .. }) => Status::Spent,
             TopFault::Ticks(_) | TopFault::Plan(_) | TopFault::Unproved(CheckFault::Overflow(_)) =>
                 Status::Overflow,

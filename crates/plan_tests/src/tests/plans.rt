@@ -3,7 +3,8 @@
 ghost use Rattle.std.specs.Prelude.{◌≡◌, ◌∷◌, []};
 ghost use Rattle.ratio_core.specs.Fraction.{reduced};
 ghost use Rattle.tasking_program.specs.Programme.{tasking_programme};
-ghost use Rattle.planner.specs.Points.{IsPoint};
+ghost use Rattle.schedule_model.specs.declared.schedule.Series.TheVariants.{Tasking};
+ghost use Rattle.series_flows.specs.Points.{IsPoint};
 
 use crate::tests::fixtures::{holds, in_ticks};
 use crate::tests::lent::{Told, tells_of};
@@ -70,7 +71,7 @@ fn tells_spent(alloc: Global, timed: &Timed) -> Result<(), Fail> {
 
 /// The table that is made anew of a plan's solution.
 fn tells_remade(alloc: Global, timed: &Timed, values: &[Ratio]) -> Result<(), Fail>
-    requires { IsPoint timed.now values.now }
+    requires { IsPoint timed.now Tasking values.now }
 {
     let table = table_of(alloc, timed, Series::Tasking, values)?;
     holds("the table made anew", is_of_row(&table, &WORKERS_TABLE))
@@ -84,7 +85,7 @@ fn is_plan_of_workers(plan: &Plan) -> bool {
 }
 
 fn tells_plan(alloc: Global, timed: &Timed, plan: &Plan) -> Result<(), Fail>
-    requires { IsPoint timed.now plan.now.optimum.values }
+    requires { IsPoint timed.now Tasking plan.now.optimum.values }
 {
     holds("the plan of two workers", is_plan_of_workers(plan))?;
     tells_remade(alloc, timed, plan.optimum.values.as_slice())
@@ -149,7 +150,7 @@ fn tells_where_a_period_passes(rt: HostRuntime) -> Result<(), Fail> {
 const NO_TASK: TableRow = ([1, 0], 0, &[], &[IDLE]);
 
 fn tells_table_of_nothing(alloc: Global, timed: &Timed) -> Result<(), Fail>
-    requires { IsPoint timed.now (reduced 0 1 ∷ []) }
+    requires { IsPoint timed.now Tasking (reduced 0 1 ∷ []) }
 {
     let table = table_of(alloc, timed, Series::Tasking, &[Ratio::new(0, 1)])?;
     holds("the table of no task", is_of_row(&table, &NO_TASK))

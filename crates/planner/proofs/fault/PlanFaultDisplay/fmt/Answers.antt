@@ -1,5 +1,0 @@
-use Rattle.std.proofs.Common.{rules}
-use Rattle.planner.proofs.fault.PlanFaultDisplay.fmt.Goals as goal
-
-pub returns-in-Period-clause-writes : goal.returns-in-Period-clause-writes
-returns-in-Period-clause-writes g c = search rules

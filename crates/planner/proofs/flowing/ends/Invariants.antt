@@ -1,6 +1,0 @@
-use Rattle.std.proofs.Common.{◌≡◌, map, take}
-use Rattle.planner.specs.Flows.{ends_of}
-use Rattle.planner.proofs.flowing.ends.Given as goal
-
-abbrev pub invariant-loop-link : goal.invariant-loop-link
-invariant-loop-link l = l.ends ≡ map ends_of (take l.link-index l.timed.platform.links)
