@@ -2,6 +2,7 @@
 //! by which a failure tells it.
 
 mod fixtures;
+mod flows;
 mod lent;
 mod op_rows;
 mod plans;

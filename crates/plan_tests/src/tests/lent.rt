@@ -1,6 +1,7 @@
 //! The one owner of platforms: it makes each, and lends it to what is told of it.
 
 use crate::tests::fixtures::in_ticks;
+use crate::tests::flows::{tells_no_target, tells_two_targets};
 use crate::tests::plans::{tells_lone_master, tells_workers};
 use crate::tests::platforms::{tells_arrays, tells_pair};
 use crate::tests::programmes::tells_halves;
@@ -19,6 +20,8 @@ pub(crate) enum Told {
     OneWorker,
     Diamond,
     Halves,
+    TwoTargets,
+    NoTarget,
     Workers,
     LoneMaster,
     Chain,
@@ -34,6 +37,8 @@ fn tells(alloc: Global, timed: &Timed, told: Told) -> Result<(), Fail> {
         Told::OneWorker => tells_of_one_worker(alloc, timed),
         Told::Diamond => tells_of_the_diamond(alloc, timed),
         Told::Halves => tells_halves(alloc, timed),
+        Told::TwoTargets => tells_two_targets(alloc, timed),
+        Told::NoTarget => tells_no_target(alloc, timed),
         Told::Workers => tells_workers(alloc, timed),
         Told::LoneMaster => tells_lone_master(alloc, timed),
         Told::Chain => tells_chain(alloc, timed),
