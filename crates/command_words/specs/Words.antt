@@ -3,7 +3,7 @@ use Rattle.std.specs.Prelude.{ℕ, true, List, [], ◌∷◌, Option, Some, None
 use Rattle.clap.specs.Words.{App, Row, Rule, Text, Kinds, new_app, new_rule, with_rule, matches_of, first_of, fault_of}
 use Rattle.clap.specs.declared.builder.action.ArgAction.TheVariants.{Set}
 use Rattle.schedule_model.specs.declared.schedule.Series.{Series}
-use Rattle.schedule_model.specs.declared.schedule.Series.TheVariants.{Tasking}
+use Rattle.schedule_model.specs.declared.schedule.Series.TheVariants.{Tasking, Scatter}
 use Rattle.text_lines.specs.Numbers.{number_of}
 
 -- a name that has to be given
@@ -49,10 +49,10 @@ abbrev pub number_given : ℕ → ℕ → Option Text → Option ℕ
 number_given most default None = Some default
 number_given most default (Some text) = number_of most text
 
--- the series of a text, so far that of tasks alone, which is also the one where none is given
+-- the series of a text, and that of tasks where none is given
 abbrev pub series_given : Option Text → Option Series
 series_given None = Some Tasking
-series_given (Some text) = cond (bytes_eq text (codes "tasking")) (Some Tasking) None
+series_given (Some text) = cond (bytes_eq text (codes "tasking")) (Some Tasking) (cond (bytes_eq text (codes "scatter")) (Some Scatter) None)
 
 -- a command with its names and what its options say
 pub data Command : Type 0 where

@@ -31,6 +31,7 @@ fn series_given(text: Option<&str>) -> Option<Series>
     match text {
         None => Some(Series::Tasking),
         Some(text) if text == "tasking" => Some(Series::Tasking),
+        Some(text) if text == "scatter" => Some(Series::Scatter),
         Some(_) => None,
     }
 }

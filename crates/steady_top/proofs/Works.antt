@@ -1,5 +1,5 @@
 -- What the work of each command comes to, from what was read of its files.
-use Rattle.std.proofs.Common.{◌≡◌, ◌∙◌, ℕ, suc, ◌+◌, option_and_then, ◌<◌, ◌≤◌, nat_lt, true, false, cond, List, [], ◌∷◌, ◌++◌, length, replicate, Option, Some, None, Result, Ok, Err, MatchResult, refl, sym, ap, subst, arith, inl, inr}
+use Rattle.std.proofs.Common.{◌≡◌, ◌∙◌, ℕ, suc, ◌+◌, option_and_then, ◌<◌, ◌≤◌, nat_lt, Bool, true, false, cond, List, [], ◌∷◌, ◌++◌, length, replicate, Option, Some, None, Result, Ok, Err, MatchResult, refl, sym, ap, subst, arith, inl, inr}
 use Rattle.std.proofs.lemmas.Bool.{lt-ltb, le-ltb}
 use Rattle.std.proofs.lemmas.List.{length-replicate, append_assoc}
 use Rattle.std.specs.Result.{IsErr, IsErrAnd}
@@ -21,8 +21,7 @@ use Rattle.planner.specs.declared.fault.PlanFault.TheVariants as plans
 use Rattle.planner.specs.Prices.{prices_of}
 use Rattle.planner.specs.Plans.{fault_of_scale, fault_of_answer, fault_of}
 use Rattle.schedule_model.specs.declared.schedule.Series.{Series}
-use Rattle.schedule_model.specs.declared.schedule.Series.TheVariants.{Tasking}
-use Rattle.tasking_program.specs.Programme.{tasking_programme}
+use Rattle.series_flows.specs.Programmes.{programme_of, lacks_targets}
 use Rattle.dual_checker.specs.declared.verdict.Verdict.{Verdict}
 use Rattle.dual_checker.specs.declared.verdict.Verdict.TheVariants.{Proves, Negative, Column, Value, Overflow}
 use Rattle.dual_checker.specs.declared.reading.CertificateFault.{CertificateFault}
@@ -32,9 +31,9 @@ use Rattle.dual_checker.specs.Verdicts.{verdict_of}
 use Rattle.steady_top.specs.Refusals.{Reason, no_platform, long_certificate, long_plan, Refusal, usage, refused, cannot_read, no_memory, platform_refusal, timed_refusal, plan_refusal}
 use Rattle.command_words.specs.Words.{Command, plan, prices, check, audit}
 use Rattle.steady_top.specs.Audits.{IsReason}
-use Rattle.steady_top.specs.Outcomes.{first_name, second_name, files_of, files_for, Outcome, prints, plans as plans_of, audits, refuses, IsRefusal, with_timed, with_platform, with_file, planned, priced, plan_of, certificate_for, judged, judged_reading, check_of_file, most_plan_bytes, audit_of_file, work_of}
+use Rattle.steady_top.specs.Outcomes.{first_name, second_name, files_of, files_for, Outcome, prints, plans as plans_of, audits, refuses, IsRefusal, with_timed, with_platform, with_file, planned, priced, plan_of, certificate_for, judged, judged_reading, check_of_bytes, check_of_file, most_plan_bytes, audit_of_file, work_of}
 use Rattle.steady_top.specs.Answers.{MayBe, ComesTo, AreOpened, IsMade, IsRefusedFor, IsCauseFor}
-use Rattle.steady_top.specs.Planned.{IsUnread, IsPlatformRead, IsPlatformFault, IsSecondRead, IsSecondFault, MayRefuse, IsBestPlan, IsBestPrices, IsProved, check_of_bytes, IsChecked, IsAuditFault, IsAudited}
+use Rattle.steady_top.specs.Planned.{IsUnread, IsPlatformRead, IsPlatformFault, IsSecondRead, IsSecondFault, MayRefuse, IsBestPlan, IsBestPrices, IsProved, IsChecked, IsAuditFault, IsAudited}
 
 -- the bytes that were read may be what is told
 pub read_may_be : (told : Told) (bytes : List ℕ) → MayHold told bytes → MayBe told (Some bytes)
@@ -171,7 +170,7 @@ refused_is_cause command before after t second read told first (refused reason) 
 refused_is_cause command before after t second read told first (cannot_read name) is = absurd is
 refused_is_cause command before after t second read told first no_memory is = record { calm = read.calm; opened = inl read.opens }
 
-first_of_plan : (name : List ℕ) (series : Series) (pivots : ℕ) (t : TimedView) (fault : Option PlanFault) → opened (plan name series pivots) (planned pivots t fault) ≡ 1
+first_of_plan : (name : List ℕ) (series : Series) (pivots : ℕ) (t : TimedView) (fault : Option PlanFault) → opened (plan name series pivots) (planned pivots t series fault) ≡ 1
 first_of_plan name series pivots t None = refl
 first_of_plan name series pivots t (Some plans.NoTargets) = refl
 first_of_plan name series pivots t (Some (plans.Pivot made row column)) = refl
@@ -179,7 +178,7 @@ first_of_plan name series pivots t (Some (plans.Spent allowed)) = refl
 first_of_plan name series pivots t (Some (plans.Period step left right)) = refl
 first_of_plan name series pivots t (Some plans.NoMemory) = refl
 
-first_of_prices : (name : List ℕ) (series : Series) (pivots : ℕ) (found : Option (Result CertificateView PlanFault)) → opened (prices name series pivots) (priced found) ≡ 1
+first_of_prices : (name : List ℕ) (series : Series) (pivots : ℕ) (found : Option (Result CertificateView PlanFault)) → opened (prices name series pivots) (priced series found) ≡ 1
 first_of_prices name series pivots None = refl
 first_of_prices name series pivots (Some (Ok c)) = refl
 first_of_prices name series pivots (Some (Err plans.NoTargets)) = refl
@@ -188,37 +187,37 @@ first_of_prices name series pivots (Some (Err (plans.Spent allowed))) = refl
 first_of_prices name series pivots (Some (Err (plans.Period step left right))) = refl
 first_of_prices name series pivots (Some (Err plans.NoMemory)) = refl
 
-pub unplanned_is_cause : (before after : FilesView) (name : List ℕ) (series : Series) (pivots : ℕ) (t : TimedView) → IsPlatformRead before name after t → (refusal : Refusal) → MayRefuse (plan_of pivots t) refusal →
+pub unplanned_is_cause : (before after : FilesView) (name : List ℕ) (series : Series) (pivots : ℕ) (t : TimedView) → IsPlatformRead before name after t → (refusal : Refusal) → MayRefuse (plan_of pivots t series) refusal →
     IsCauseFor (plan name series pivots) before after refusal
 unplanned_is_cause before after name series pivots t read =
-    refused_is_cause (plan name series pivots) before after t (Some read.platform.bytes) read read.platform.file (first_of_plan name series pivots t (fault_of pivots t Tasking))
+    refused_is_cause (plan name series pivots) before after t (Some read.platform.bytes) read read.platform.file (first_of_plan name series pivots t (fault_of pivots t series))
 
-pub unpriced_is_cause : (before after : FilesView) (name : List ℕ) (series : Series) (pivots : ℕ) (t : TimedView) → IsPlatformRead before name after t → (refusal : Refusal) → MayRefuse (certificate_for pivots t) refusal →
+pub unpriced_is_cause : (before after : FilesView) (name : List ℕ) (series : Series) (pivots : ℕ) (t : TimedView) → IsPlatformRead before name after t → (refusal : Refusal) → MayRefuse (certificate_for pivots t series) refusal →
     IsCauseFor (prices name series pivots) before after refusal
 unpriced_is_cause before after name series pivots t read =
-    refused_is_cause (prices name series pivots) before after t (Some read.platform.bytes) read read.platform.file (first_of_prices name series pivots (prices_of pivots t Tasking))
+    refused_is_cause (prices name series pivots) before after t (Some read.platform.bytes) read read.platform.file (first_of_prices name series pivots (prices_of pivots t series))
 
 -- a plan that is found is what the command prints
-pub planned_is_made : (before after : FilesView) (name : List ℕ) (series : Series) (most : ℕ) (t : TimedView) (text : List ℕ) → IsPlatformRead before name after t → IsBestPlan most t text →
+pub planned_is_made : (before after : FilesView) (name : List ℕ) (series : Series) (most : ℕ) (t : TimedView) (text : List ℕ) → IsPlatformRead before name after t → IsBestPlan most t series text →
     IsMade (plan name series most) before after text
 planned_is_made before after name series most t text read found = record {
-  outcome = plans_of most t;
-  comes = comes_of (plan name series most) before after t (Some read.platform.bytes) (plans_of most t) read read.platform.file (ap (planned most t) none);
+  outcome = plans_of most t series;
+  comes = comes_of (plan name series most) before after t (Some read.platform.bytes) (plans_of most t series) read read.platform.file (ap (planned most t series) none);
   due = record { plan = found.plan; is = found.made; is_text = found.is_plan };
   claim = record { timed = t; platform = read.platform; plan = found.plan; made = found.made; best = found.best; is_plan = found.is_plan };
   calm = read.calm;
   opens = read.opens;
 }
   where
-    none : fault_of most t Tasking ≡ None
-    none = ap (option_and_then (fault_of_answer t Tasking)) found.made.solved ∙ ap fault_of_scale found.made.made.routed.scaled
+    none : fault_of most t series ≡ None
+    none = ap (option_and_then (fault_of_answer t series)) found.made.solved ∙ ap fault_of_scale found.made.made.routed.scaled
 
 -- prices that are found are what the command prints
-pub priced_is_made : (before after : FilesView) (name : List ℕ) (series : Series) (most : ℕ) (t : TimedView) (text : List ℕ) → IsPlatformRead before name after t → IsBestPrices most t text →
+pub priced_is_made : (before after : FilesView) (name : List ℕ) (series : Series) (most : ℕ) (t : TimedView) (text : List ℕ) → IsPlatformRead before name after t → IsBestPrices most t series text →
     IsMade (prices name series most) before after text
 priced_is_made before after name series most t text read found = record {
   outcome = prints text;
-  comes = comes_of (prices name series most) before after t (Some read.platform.bytes) (prints text) read read.platform.file (ap priced found.run ∙ ap prints (sym found.is_certificate));
+  comes = comes_of (prices name series most) before after t (Some read.platform.bytes) (prints text) read read.platform.file (ap (priced series) found.run ∙ ap prints (sym found.is_certificate));
   due = refl;
   claim = record { timed = t; platform = read.platform; certificate = found.certificate; run = found.run; best = found.best; rate = found.rate; is_certificate = found.is_certificate };
   calm = read.calm;
@@ -268,9 +267,9 @@ second_cause command before middle after t outcome two work read no_memory fault
 }
 
 pub unchecked_is_cause : (before middle after : FilesView) (name second : List ℕ) (series : Series) (t : TimedView) → IsPlatformRead before name middle t → (refusal : Refusal) →
-    IsSecondFault (check_of_file t) middle second after refusal → IsCauseFor (check name second series) before after refusal
+    IsSecondFault (check_of_file t series) middle second after refusal → IsCauseFor (check name second series) before after refusal
 unchecked_is_cause before middle after name second series t read =
-    second_cause (check name second series) before middle after t (check_of_file t) refl (λ bytes. refl) read
+    second_cause (check name second series) before middle after t (check_of_file t series) refl (λ bytes. refl) read
 
 pub unaudited_is_cause : (before middle after : FilesView) (name second : List ℕ) (periods : ℕ) (t : TimedView) → IsPlatformRead before name middle t → (refusal : Refusal) →
     IsSecondFault (audit_of_file periods t) middle second after refusal → IsCauseFor (audit name second periods) before after refusal
@@ -278,11 +277,11 @@ unaudited_is_cause before middle after name second periods t read =
     second_cause (audit name second periods) before middle after t (audit_of_file periods t) refl (λ bytes. refl) read
 
 -- a certificate that is too long
-pub long_is_refused : (t : TimedView) (bytes : List ℕ) → most_bytes < length bytes → check_of_file t bytes ≡ refuses (refused long_certificate)
-long_is_refused t bytes h = rw (lt-ltb most_bytes (length bytes) h) refl
+pub long_is_refused : (t : TimedView) (series : Series) (bytes : List ℕ) → most_bytes < length bytes → check_of_file t series bytes ≡ refuses (refused long_certificate)
+long_is_refused t series bytes h = rw (lt-ltb most_bytes (length bytes) h) refl
 
-short_is_checked : (t : TimedView) (bytes : List ℕ) → length bytes ≤ most_bytes → check_of_file t bytes ≡ check_of_bytes t bytes
-short_is_checked t bytes h = rw (le-ltb most_bytes (length bytes) h) refl
+short_is_checked : (t : TimedView) (series : Series) (bytes : List ℕ) → length bytes ≤ most_bytes → check_of_file t series bytes ≡ check_of_bytes t series bytes
+short_is_checked t series bytes h = rw (le-ltb most_bytes (length bytes) h) refl
 
 -- a plan that is too long
 pub long_plan_refused : (t : TimedView) (periods : ℕ) (bytes : List ℕ) → most_plan_bytes < length bytes → audit_of_file periods t bytes ≡ refuses (refused long_plan)
@@ -299,26 +298,32 @@ second_of_verdict command t c (Column column) = refl
 second_of_verdict command t c Value = refl
 second_of_verdict command t c (Overflow column) = refl
 
-second_of_reading : (command : Command) (t : TimedView) (reading : Result CertificateView CertificateFault) → opened command (judged_reading t reading) ≡ files_of command
-second_of_reading command t (Ok c) = second_of_verdict command t c (verdict_of (tasking_programme t) c)
-second_of_reading command t (Err (text.Line number)) = refl
-second_of_reading command t (Err text.NoMemory) = refl
+second_of_reading : (command : Command) (t : TimedView) (series : Series) (reading : Result CertificateView CertificateFault) → opened command (judged_reading t series reading) ≡ files_of command
+second_of_reading command t series (Ok c) = second_of_verdict command t c (verdict_of (programme_of t series) c)
+second_of_reading command t series (Err (text.Line number)) = refl
+second_of_reading command t series (Err text.NoMemory) = refl
+
+-- the check is refused behind both files, also where messages have nowhere to go
+second_of_check : (command : Command) (t : TimedView) (series : Series) (reading : Result CertificateView CertificateFault) (lacks : Bool) →
+    opened command (cond lacks (refuses (plan_refusal plans.NoTargets)) (judged_reading t series reading)) ≡ files_of command
+second_of_check command t series reading true = refl
+second_of_check command t series reading false = second_of_reading command t series reading
 
 -- what the check of a certificate that was read refuses
-pub unproved_is_second : (t : TimedView) (before after : FilesView) (name bytes : List ℕ) → IsSecondRead before name most_bytes after bytes → (refusal : Refusal) → MayRefuse (check_of_bytes t bytes) refusal →
-    IsSecondFault (check_of_file t) before name after refusal
-unproved_is_second t before after name bytes read usage is = absurd is
-unproved_is_second t before after name bytes read (refused reason) is = record {
+pub unproved_is_second : (t : TimedView) (series : Series) (before after : FilesView) (name bytes : List ℕ) → IsSecondRead before name most_bytes after bytes → (refusal : Refusal) → MayRefuse (check_of_bytes t series bytes) refusal →
+    IsSecondFault (check_of_file t series) before name after refusal
+unproved_is_second t series before after name bytes read usage is = absurd is
+unproved_is_second t series before after name bytes read (refused reason) is = record {
   opens = read.opens;
   cause = record {
     bytes = bytes;
     file = read.file;
-    refusal = subst (λ o. IsRefusal o (refused reason)) (sym (short_is_checked t bytes read.size ∙ is)) refl;
-    second = λ command. sym (ap (opened command) is) ∙ second_of_reading command t (certificate_of Tasking (length (tasking_programme t).rows) bytes);
+    refusal = subst (λ o. IsRefusal o (refused reason)) (sym (short_is_checked t series bytes read.size ∙ is)) refl;
+    second = λ command. sym (ap (opened command) is) ∙ second_of_check command t series (certificate_of series (length (programme_of t series).rows) bytes) (lacks_targets t series);
   };
 }
-unproved_is_second t before after name bytes read (cannot_read named) is = absurd is
-unproved_is_second t before after name bytes read no_memory is = record { opens = read.opens; cause = read.calm }
+unproved_is_second t series before after name bytes read (cannot_read named) is = absurd is
+unproved_is_second t series before after name bytes read no_memory is = record { opens = read.opens; cause = read.calm }
 
 -- a plan that is refused, behind both files
 second_of_reason : (periods : ℕ) (t : TimedView) (bytes : List ℕ) (reason : Reason) → IsReason periods t bytes reason → (command : Command) → files_for command reason ≡ files_of command
@@ -342,16 +347,21 @@ unsound_is_second t periods before after name bytes timed read (refused reason) 
 unsound_is_second t periods before after name bytes timed read (cannot_read named) fault = absurd fault
 unsound_is_second t periods before after name bytes timed read no_memory fault = record { opens = read.opens; cause = read.calm }
 
+-- where messages have somewhere to go, the certificate's lines are read
+with_target : (t : TimedView) (series : Series) (bytes : List ℕ) → lacks_targets t series ≡ false → check_of_bytes t series bytes ≡ judged_reading t series (certificate_of series (length (programme_of t series).rows) bytes)
+with_target t series bytes some = rw some refl
+
 -- what the check of a certificate that was read says is what the command comes to
-pub checked_is_made : (before middle after : FilesView) (name second : List ℕ) (series : Series) (t : TimedView) → IsPlatformRead before name middle t → (text : List ℕ) → IsChecked t middle second after text →
+pub checked_is_made : (before middle after : FilesView) (name second : List ℕ) (series : Series) (t : TimedView) → IsPlatformRead before name middle t → (text : List ℕ) → IsChecked t series middle second after text →
     IsMade (check name second series) before after text
 checked_is_made before middle after name second series t read text checked = record {
   outcome = prints text;
   comes = comes_of (check name second series) before middle t (Some checked.bytes) (prints text) read file
-      (short_is_checked t checked.bytes checked.read.size ∙ ap (judged_reading t) checked.check.read ∙ ap (judged t checked.check.certificate) proved.proves ∙ ap prints (sym proved.is_line));
+      (short_is_checked t series checked.bytes checked.read.size ∙ with_target t series checked.bytes checked.check.some_target ∙ ap (judged_reading t series) checked.check.read ∙ ap (judged t checked.check.certificate) proved.proves ∙ ap prints (sym proved.is_line));
   due = refl;
   claim = record {
     timed = t;
+    some_target = checked.check.some_target;
     platform = read.platform;
     bytes = checked.bytes;
     file = file;
@@ -365,7 +375,7 @@ checked_is_made before middle after name second series t read text checked = rec
   opens = raised_twice before.opens middle.opens after.opens read.opens checked.read.opens;
 }
   where
-    proved : IsProved t checked.check.certificate text
+    proved : IsProved t series checked.check.certificate text
     proved = checked.check.proved
 
     file : MayBe (before.held second) (Some checked.bytes)

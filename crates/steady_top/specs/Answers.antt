@@ -1,5 +1,5 @@
 -- What an answer of the program says of the words, the files and the sink (this project).
-use Rattle.std.specs.Prelude.{◌≡◌, ℕ, ◌*◌, nat_abs, List, length, map, Option, Some, None, Ok, ◌⊎◌, String, string_bytes}
+use Rattle.std.specs.Prelude.{◌≡◌, ℕ, ◌*◌, false, nat_abs, List, length, map, Option, Some, None, Ok, ◌⊎◌, String, string_bytes}
 use Rattle.std.specs.declared.alloc.Global.{Global}
 use Rattle.outside_io.specs.Files.{Told, untold, absent, contents, FilesView, HasCause}
 use Rattle.outside_io.specs.Faults.{Rose, raised}
@@ -7,10 +7,10 @@ use Rattle.outside_io.specs.Sinks.{SinkView, IsWholeWritten, IsCutOff}
 use Rattle.platform_file.specs.Platform.{PlatformView}
 use Rattle.platform_file.specs.Reading.{platform_of}
 use Rattle.platform_file.specs.Ticks.{TimedView, timed_of}
-use Rattle.schedule_model.specs.declared.schedule.Series.TheVariants.{Tasking}
+use Rattle.schedule_model.specs.declared.schedule.Series.{Series}
 use Rattle.schedule_model.specs.Throughput.{IsUpperRate}
 use Rattle.linear_program.specs.Certificates.{CertificateView}
-use Rattle.tasking_program.specs.Programme.{tasking_programme}
+use Rattle.series_flows.specs.Programmes.{programme_of, lacks_targets}
 use Rattle.dual_checker.specs.declared.verdict.Verdict.TheVariants.{Proves}
 use Rattle.dual_checker.specs.Reading.{certificate_of}
 use Rattle.dual_checker.specs.Texts.{certificate_text}
@@ -64,35 +64,37 @@ pub record IsPlatformOf (before : FilesView) (name : List ℕ) (t : TimedView) :
   pub read : platform_of bytes ≡ Ok platform
   pub in_ticks : timed_of platform ≡ Ok t
 
--- the text is the plan of the platform of the file's bytes, whose table is best
-pub record IsBestText (pivots : ℕ) (before : FilesView) (name text : List ℕ) : Type 0 where
+-- the text is the plan of the platform of the file's bytes for the series, whose table is best
+pub record IsBestText (pivots : ℕ) (series : Series) (before : FilesView) (name text : List ℕ) : Type 0 where
   pub timed : TimedView
   pub platform : IsPlatformOf before name timed
   pub plan : Plan
-  pub made : IsPlan pivots timed Tasking plan
-  pub best : IsBest timed Tasking plan.table
-  pub is_plan : text ≡ plan_text timed Tasking plan.table
+  pub made : IsPlan pivots timed series plan
+  pub best : IsBest timed series plan.table
+  pub is_plan : text ≡ plan_text timed series plan.table
 
--- the text is the certificate of the best rate of the platform of the file's bytes, which no schedule exceeds
-pub record IsPricedText (pivots : ℕ) (before : FilesView) (name text : List ℕ) : Type 0 where
+-- the text is the certificate of the best rate of the series on the platform of the file's bytes, which no schedule exceeds
+pub record IsPricedText (pivots : ℕ) (series : Series) (before : FilesView) (name text : List ℕ) : Type 0 where
   pub timed : TimedView
   pub platform : IsPlatformOf before name timed
   pub certificate : CertificateView
-  pub run : prices_of pivots timed Tasking ≡ Some (Ok certificate)
-  pub best : IsBestCertificate pivots timed Tasking certificate
-  pub rate : IsUpperRate timed Tasking (nat_abs certificate.best * timed.unit) (nat_abs certificate.scale)
-  pub is_certificate : text ≡ certificate_text Tasking certificate
+  pub run : prices_of pivots timed series ≡ Some (Ok certificate)
+  pub best : IsBestCertificate pivots timed series certificate
+  pub rate : IsUpperRate timed series (nat_abs certificate.best * timed.unit) (nat_abs certificate.scale)
+  pub is_certificate : text ≡ certificate_text series certificate
 
--- the text has the rate of the certificate that the second file's bytes are, which proves that no schedule exceeds it
-pub record IsCheckedText (before : FilesView) (name second text : List ℕ) : Type 0 where
+-- the text has the rate of the certificate of the series that the second file's bytes are, which proves that no schedule exceeds it; a scatter
+-- has a target
+pub record IsCheckedText (series : Series) (before : FilesView) (name second text : List ℕ) : Type 0 where
   pub timed : TimedView
+  pub some_target : lacks_targets timed series ≡ false
   pub platform : IsPlatformOf before name timed
   pub bytes : List ℕ
   pub file : MayBe (before.held second) (Some bytes)
   pub certificate : CertificateView
-  pub read : certificate_of Tasking (length (tasking_programme timed).rows) bytes ≡ Ok certificate
-  pub proves : verdict_of (tasking_programme timed) certificate ≡ Proves
-  pub rate : IsUpperRate timed Tasking (nat_abs certificate.best * timed.unit) (nat_abs certificate.scale)
+  pub read : certificate_of series (length (programme_of timed series).rows) bytes ≡ Ok certificate
+  pub proves : verdict_of (programme_of timed series) certificate ≡ Proves
+  pub rate : IsUpperRate timed series (nat_abs certificate.best * timed.unit) (nat_abs certificate.scale)
   pub is_line : text ≡ upper_text timed certificate
 
 -- the text has the numbers of the plan that the second file's bytes are, over so many periods: its schedule is well-formed, one-port and
@@ -106,9 +108,9 @@ pub record IsAuditedText (periods : ℕ) (before : FilesView) (name second text 
 
 -- what a command's text claims
 abbrev pub IsClaim : Command → FilesView → List ℕ → Type 0
-IsClaim (plan name series pivots) before text = IsBestText pivots before name text
-IsClaim (prices name series pivots) before text = IsPricedText pivots before name text
-IsClaim (check name second series) before text = IsCheckedText before name second text
+IsClaim (plan name series pivots) before text = IsBestText pivots series before name text
+IsClaim (prices name series pivots) before text = IsPricedText pivots series before name text
+IsClaim (check name second series) before text = IsCheckedText series before name second text
 IsClaim (audit name other periods) before text = IsAuditedText periods before name other text
 
 -- in a call so many opens were made, as far as their count goes

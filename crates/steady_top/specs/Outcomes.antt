@@ -9,9 +9,9 @@ use Rattle.platform_file.specs.Platform.{PlatformView}
 use Rattle.platform_file.specs.declared.fault.TimedFault.{TimedFault}
 use Rattle.platform_file.specs.Reading.{most_bytes, platform_of}
 use Rattle.platform_file.specs.Ticks.{TimedView, timed_of}
-use Rattle.schedule_model.specs.declared.schedule.Series.TheVariants.{Tasking}
+use Rattle.schedule_model.specs.declared.schedule.Series.{Series}
 use Rattle.linear_program.specs.Certificates.{CertificateView}
-use Rattle.tasking_program.specs.Programme.{tasking_programme}
+use Rattle.series_flows.specs.Programmes.{programme_of, lacks_targets}
 use Rattle.dual_checker.specs.declared.verdict.Verdict.{Verdict}
 use Rattle.dual_checker.specs.declared.verdict.Verdict.TheVariants.{Proves, Negative, Column, Value, Overflow}
 use Rattle.dual_checker.specs.declared.reading.CertificateFault.{CertificateFault}
@@ -20,6 +20,7 @@ use Rattle.dual_checker.specs.Texts.{certificate_text}
 use Rattle.dual_checker.specs.Reading.{certificate_of}
 use Rattle.dual_checker.specs.Verdicts.{verdict_of}
 use Rattle.planner.specs.declared.fault.PlanFault.{PlanFault}
+use Rattle.planner.specs.declared.fault.PlanFault.TheVariants.{NoTargets}
 use Rattle.planner.specs.declared.planned.Plan.{Plan}
 use Rattle.planner.specs.Prices.{prices_of}
 use Rattle.planner.specs.Plans.{fault_of, IsPlan}
@@ -55,11 +56,11 @@ files_for command (no_platform fault) = 1
 files_for command (no_ticks fault) = 1
 files_for command reason = files_of command
 
--- the program prints these bytes, prints the plan of a platform that is found with at most so many pivots, audits the bytes of a plan over
--- so many periods, or refuses
+-- the program prints these bytes, prints the plan of a platform for a series that is found with at most so many pivots, audits the bytes of
+-- a plan over so many periods, or refuses
 pub data Outcome : Type 0 where
   prints : List ℕ → Outcome
-  plans : ℕ → TimedView → Outcome
+  plans : ℕ → TimedView → Series → Outcome
   audits : ℕ → TimedView → List ℕ → Outcome
   refuses : Refusal → Outcome
 
@@ -83,51 +84,51 @@ with_name next name None = refuses (cannot_read name)
 with_name next name (Some bytes) = with_file next bytes
 
 -- a platform is planned, or there is a fault
-abbrev pub planned : ℕ → TimedView → Option PlanFault → Outcome
-planned pivots t None = plans pivots t
-planned pivots t (Some fault) = refuses (plan_refusal fault)
+abbrev pub planned : ℕ → TimedView → Series → Option PlanFault → Outcome
+planned pivots t series None = plans pivots t series
+planned pivots t series (Some fault) = refuses (plan_refusal fault)
 
 -- what comes of a platform that is to be planned
-abbrev pub plan_of : ℕ → TimedView → Outcome
-plan_of pivots t = planned pivots t (fault_of pivots t Tasking)
+abbrev pub plan_of : ℕ → TimedView → Series → Outcome
+plan_of pivots t series = planned pivots t series (fault_of pivots t series)
 
 -- the text is that of the platform's plan
-pub record IsPlanText (pivots : ℕ) (t : TimedView) (text : List ℕ) : Type 0 where
+pub record IsPlanText (pivots : ℕ) (t : TimedView) (series : Series) (text : List ℕ) : Type 0 where
   pub plan : Plan
-  pub is : IsPlan pivots t Tasking plan
-  pub is_text : text ≡ plan_text t Tasking plan.table
+  pub is : IsPlan pivots t series plan
+  pub is_text : text ≡ plan_text t series plan.table
 
 -- the outcome lets the program print the text
 abbrev pub IsPrint : Outcome → List ℕ → Type 0
 IsPrint (prints bytes) text = text ≡ bytes
-IsPrint (plans pivots t) text = IsPlanText pivots t text
+IsPrint (plans pivots t series) text = IsPlanText pivots t series text
 IsPrint (audits periods t bytes) text = IsAudit periods t bytes text
 IsPrint (refuses refusal) text = ⊥
 
 -- the outcome is no refusal
 abbrev pub IsText : Outcome → Type 0
 IsText (prints bytes) = Unit {0}
-IsText (plans pivots t) = Unit {0}
+IsText (plans pivots t series) = Unit {0}
 IsText (audits periods t bytes) = IsSound periods t bytes
 IsText (refuses refusal) = ⊥
 
 -- the outcome is this refusal
 abbrev pub IsRefusal : Outcome → Refusal → Type 0
 IsRefusal (prints bytes) refusal = ⊥
-IsRefusal (plans pivots t) refusal = ⊥
+IsRefusal (plans pivots t series) refusal = ⊥
 IsRefusal (audits periods t bytes) (refused reason) = IsUnsound periods t bytes reason
 IsRefusal (audits periods t bytes) refusal = ⊥
 IsRefusal (refuses other) refusal = other ≡ refusal
 
 -- the text of a certificate, or why there is none; a run over a bounded programme always has an answer
-abbrev pub priced : Option (Result CertificateView PlanFault) → Outcome
-priced (Some (Ok c)) = prints (certificate_text Tasking c)
-priced (Some (Err fault)) = refuses (plan_refusal fault)
-priced None = refuses no_memory
+abbrev pub priced : Series → Option (Result CertificateView PlanFault) → Outcome
+priced series (Some (Ok c)) = prints (certificate_text series c)
+priced series (Some (Err fault)) = refuses (plan_refusal fault)
+priced series None = refuses no_memory
 
 -- a platform's certificate of the best rate
-abbrev pub certificate_for : ℕ → TimedView → Outcome
-certificate_for pivots t = priced (prices_of pivots t Tasking)
+abbrev pub certificate_for : ℕ → TimedView → Series → Outcome
+certificate_for pivots t series = priced series (prices_of pivots t series)
 
 -- the line of a certificate that proves: its rate in tasks per tick, and the ticks of a time unit
 abbrev pub upper_text : TimedView → CertificateView → List ℕ
@@ -142,19 +143,24 @@ judged t c Value = refuses (refused passed_value)
 judged t c (Overflow column) = refuses (refused (check_overflow column))
 
 -- a certificate that is read is checked
-abbrev pub judged_reading : TimedView → Result CertificateView CertificateFault → Outcome
-judged_reading t (Ok c) = judged t c (verdict_of (tasking_programme t) c)
-judged_reading t (Err (text.Line number)) = refuses (refused (certificate_line number))
-judged_reading t (Err text.NoMemory) = refuses no_memory
+abbrev pub judged_reading : TimedView → Series → Result CertificateView CertificateFault → Outcome
+judged_reading t series (Ok c) = judged t c (verdict_of (programme_of t series) c)
+judged_reading t series (Err (text.Line number)) = refuses (refused (certificate_line number))
+judged_reading t series (Err text.NoMemory) = refuses no_memory
+
+-- what comes of the bytes of a certificate within its limit; where messages have nowhere to go there is nothing to check
+abbrev pub check_of_bytes : TimedView → Series → List ℕ → Outcome
+check_of_bytes t series bytes =
+    cond (lacks_targets t series) (refuses (plan_refusal NoTargets)) (judged_reading t series (certificate_of series (length (programme_of t series).rows) bytes))
 
 -- what comes of the bytes of a certificate
-abbrev pub check_of_file : TimedView → List ℕ → Outcome
-check_of_file t bytes = cond (nat_lt most_bytes (length bytes)) (refuses (refused long_certificate)) (judged_reading t (certificate_of Tasking (length (tasking_programme t).rows) bytes))
+abbrev pub check_of_file : TimedView → Series → List ℕ → Outcome
+check_of_file t series bytes = cond (nat_lt most_bytes (length bytes)) (refuses (refused long_certificate)) (check_of_bytes t series bytes)
 
 -- what the files hold under the name of a certificate, if there is such a file
-abbrev pub check_of_name : List ℕ → Option (List ℕ) → TimedView → Outcome
-check_of_name name None t = refuses (cannot_read name)
-check_of_name name (Some bytes) t = check_of_file t bytes
+abbrev pub check_of_name : List ℕ → Option (List ℕ) → Series → TimedView → Outcome
+check_of_name name None series t = refuses (cannot_read name)
+check_of_name name (Some bytes) series t = check_of_file t series bytes
 
 -- the most bytes of a plan
 abbrev pub most_plan_bytes : ℕ
@@ -171,9 +177,9 @@ audit_of_name name periods (Some bytes) t = audit_of_file periods t bytes
 
 -- what comes of a platform in ticks and of the second file
 abbrev pub work_of : Command → Option (List ℕ) → TimedView → Outcome
-work_of (plan name series pivots) second t = plan_of pivots t
-work_of (prices name series pivots) second t = certificate_for pivots t
-work_of (check name certificate series) second t = check_of_name certificate second t
+work_of (plan name series pivots) second t = plan_of pivots t series
+work_of (prices name series pivots) second t = certificate_for pivots t series
+work_of (check name certificate series) second t = check_of_name certificate second series t
 work_of (audit name other periods) second t = audit_of_name other periods second t
 
 -- what comes of a command, of what its first name holds and of what its second one holds

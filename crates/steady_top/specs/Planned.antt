@@ -1,14 +1,13 @@
 -- What reading a named file comes to: a platform's, and a certificate's or a plan's behind it (this project).
-use Rattle.std.specs.Prelude.{◌≡◌, ℕ, ◌+◌, ◌*◌, ◌≤◌, ◌⊎◌, true, nat_abs, List, length, Some, Ok}
+use Rattle.std.specs.Prelude.{◌≡◌, ℕ, ◌+◌, ◌*◌, ◌≤◌, ◌⊎◌, true, false, nat_abs, List, length, Some, Ok}
 use Rattle.command_words.specs.Words.{Command}
 use Rattle.outside_io.specs.Files.{FilesView, HasCause}
 use Rattle.outside_io.specs.Reading.{MayPass}
 use Rattle.platform_file.specs.Reading.{most_bytes}
 use Rattle.platform_file.specs.Ticks.{TimedView}
-use Rattle.schedule_model.specs.declared.schedule.Series.TheVariants.{Tasking}
 use Rattle.schedule_model.specs.Throughput.{IsUpperRate}
 use Rattle.linear_program.specs.Certificates.{CertificateView}
-use Rattle.tasking_program.specs.Programme.{tasking_programme}
+use Rattle.series_flows.specs.Programmes.{programme_of, lacks_targets}
 use Rattle.dual_checker.specs.Reading.{certificate_of}
 use Rattle.dual_checker.specs.Texts.{certificate_text}
 use Rattle.dual_checker.specs.Verdicts.{verdict_of}
@@ -19,7 +18,7 @@ use Rattle.planner.specs.Prices.{prices_of, IsBestCertificate}
 use Rattle.plan_text.specs.Texts.{plan_text}
 use Rattle.period_table.specs.Best.{IsBest}
 use Rattle.steady_top.specs.Refusals.{Reason, Refusal, usage, refused, cannot_read, no_memory}
-use Rattle.steady_top.specs.Outcomes.{Outcome, files_of, files_for, refuses, IsRefusal, with_file, judged_reading, upper_text, most_plan_bytes}
+use Rattle.steady_top.specs.Outcomes.{Outcome, files_of, files_for, refuses, IsRefusal, with_file, upper_text, most_plan_bytes}
 use Rattle.schedule_model.specs.declared.schedule.Series.{Series}
 use Rattle.schedule_model.specs.declared.schedule.Schedule.{Schedule}
 use Rattle.period_table.specs.declared.table.Table.{Table}
@@ -99,9 +98,9 @@ pub record IsSecondFault (outcome : List ℕ → Outcome) (before : FilesView) (
   pub cause : SecondCause outcome before name after refusal
 
 -- the certificate proves that no schedule exceeds its rate, and the text says so
-pub record IsProved (t : TimedView) (c : CertificateView) (text : List ℕ) : Type 0 where
-  pub proves : verdict_of (tasking_programme t) c ≡ Proves
-  pub rate : IsUpperRate t Tasking (nat_abs c.best * t.unit) (nat_abs c.scale)
+pub record IsProved (t : TimedView) (series : Series) (c : CertificateView) (text : List ℕ) : Type 0 where
+  pub proves : verdict_of (programme_of t series) c ≡ Proves
+  pub rate : IsUpperRate t series (nat_abs c.best * t.unit) (nat_abs c.scale)
   pub is_line : text ≡ upper_text t c
 
 -- the outcome refuses so; memory may run out at any time
@@ -111,36 +110,33 @@ MayRefuse outcome usage = ⊥
 MayRefuse outcome (cannot_read name) = ⊥
 MayRefuse outcome (refused reason) = outcome ≡ refuses (refused reason)
 
--- what comes of the bytes of a certificate within its limit
-abbrev pub check_of_bytes : TimedView → List ℕ → Outcome
-check_of_bytes t bytes = judged_reading t (certificate_of Tasking (length (tasking_programme t).rows) bytes)
-
 -- the bytes are a certificate that proves, and the text says what
-pub record IsCheck (t : TimedView) (bytes text : List ℕ) : Type 0 where
+pub record IsCheck (t : TimedView) (series : Series) (bytes text : List ℕ) : Type 0 where
+  pub some_target : lacks_targets t series ≡ false
   pub certificate : CertificateView
-  pub read : certificate_of Tasking (length (tasking_programme t).rows) bytes ≡ Ok certificate
-  pub proved : IsProved t certificate text
+  pub read : certificate_of series (length (programme_of t series).rows) bytes ≡ Ok certificate
+  pub proved : IsProved t series certificate text
 
 -- the certificate of the file was read and proves, and the text says what
-pub record IsChecked (t : TimedView) (before : FilesView) (name : List ℕ) (after : FilesView) (text : List ℕ) : Type 0 where
+pub record IsChecked (t : TimedView) (series : Series) (before : FilesView) (name : List ℕ) (after : FilesView) (text : List ℕ) : Type 0 where
   pub bytes : List ℕ
   pub read : IsSecondRead before name most_bytes after bytes
-  pub check : IsCheck t bytes text
+  pub check : IsCheck t series bytes text
 
--- the text is that of a plan of the platform, whose table is best
-pub record IsBestPlan (pivots : ℕ) (t : TimedView) (text : List ℕ) : Type 0 where
+-- the text is that of a plan of the platform for the series, whose table is best
+pub record IsBestPlan (pivots : ℕ) (t : TimedView) (series : Series) (text : List ℕ) : Type 0 where
   pub plan : Plan
-  pub made : IsPlan pivots t Tasking plan
-  pub best : IsBest t Tasking plan.table
-  pub is_plan : text ≡ plan_text t Tasking plan.table
+  pub made : IsPlan pivots t series plan
+  pub best : IsBest t series plan.table
+  pub is_plan : text ≡ plan_text t series plan.table
 
--- the text is the certificate of the platform's best rate, which no schedule exceeds
-pub record IsBestPrices (pivots : ℕ) (t : TimedView) (text : List ℕ) : Type 0 where
+-- the text is the certificate of the platform's best rate of the series, which no schedule exceeds
+pub record IsBestPrices (pivots : ℕ) (t : TimedView) (series : Series) (text : List ℕ) : Type 0 where
   pub certificate : CertificateView
-  pub run : prices_of pivots t Tasking ≡ Some (Ok certificate)
-  pub best : IsBestCertificate pivots t Tasking certificate
-  pub rate : IsUpperRate t Tasking (nat_abs certificate.best * t.unit) (nat_abs certificate.scale)
-  pub is_certificate : text ≡ certificate_text Tasking certificate
+  pub run : prices_of pivots t series ≡ Some (Ok certificate)
+  pub best : IsBestCertificate pivots t series certificate
+  pub rate : IsUpperRate t series (nat_abs certificate.best * t.unit) (nat_abs certificate.scale)
+  pub is_certificate : text ≡ certificate_text series certificate
 
 -- the schedule is that of the plan, and isn't too long
 pub record IsScheduleOf (periods : ℕ) (t : TimedView) (bytes : List ℕ) (series : Series) (schedule : Schedule) : Type 0 where

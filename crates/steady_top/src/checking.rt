@@ -1,14 +1,14 @@
 //! The command `check`.
 
-ghost use Rattle.std.specs.Prelude.{◌≡◌, ◌++◌, Ok, codes, decimal, length, string_bytes, MatchResult, IfOk, OnOk};
+ghost use Rattle.std.specs.Prelude.{◌≡◌, ◌++◌, false, Ok, codes, decimal, length, string_bytes, MatchResult, IfOk, OnOk};
 ghost use Rattle.std.specs.Fmt.{signed_decimal};
 ghost use Rattle.text_lines.specs.Lines.{line};
-ghost use Rattle.tasking_program.specs.Programme.{tasking_programme};
+ghost use Rattle.series_flows.specs.Programmes.{programme_of, lacks_targets};
 ghost use Rattle.command_words.specs.Words.{check};
 ghost use Rattle.steady_top.specs.Faults.{refusal_of};
-ghost use Rattle.steady_top.specs.Outcomes.{judged_reading, upper_text, check_of_file};
+ghost use Rattle.steady_top.specs.Outcomes.{judged_reading, upper_text, check_of_bytes, check_of_file};
 ghost use Rattle.steady_top.specs.Answers.{IsMade, IsCauseFor};
-ghost use Rattle.steady_top.specs.Planned.{IsSecondFault, MayRefuse, IsProved, check_of_bytes, IsCheck, IsChecked};
+ghost use Rattle.steady_top.specs.Planned.{IsSecondFault, MayRefuse, IsProved, IsCheck, IsChecked};
 
 use crate::fault::{CheckFault, ReadingFault, TopFault};
 use crate::reading::{read_named, read_timed};
@@ -18,8 +18,8 @@ use listed::NoMemory;
 use outside_io::Files;
 use platform_file::Timed;
 use schedule_model::Series;
+use series_flows::programme_of;
 use std::alloc::Global;
-use tasking_program::tasking_lp;
 
 /// The most bytes of a certificate.
 const MOST_CERTIFICATE_BYTES: u64 = 1048576;
@@ -63,16 +63,19 @@ fn upper_line(alloc: Global, timed: &Timed, certificate: &Certificate) -> Result
 fn judge<'a>(
     alloc: Global,
     timed: &Timed,
+    series: Series,
     lp: &Lp,
     certificate: &Certificate,
 ) -> Result<String, TopFault<'a>>
-    requires programme { lp.now ≡ tasking_programme timed.now }
+    requires programme { lp.now ≡ programme_of timed.now series }
+    requires targets { lacks_targets timed.now series ≡ false }
     requires rows { length certificate.now.prices ≡ length lp.now.rows }
     ensures text { MatchResult result
-        (λ text. IsProved timed.now certificate.now (string_bytes text))
-        (λ fault. MayRefuse (judged_reading timed.now (Ok certificate.now)) (refusal_of fault)) }
+        (λ text. IsProved timed.now series certificate.now (string_bytes text))
+        (λ fault. MayRefuse (judged_reading timed.now series (Ok certificate.now)) (refusal_of fault)) }
 {
     timed.known();
+    let _ = series;
     match dual_checker::check(lp, certificate) {
         Verdict::Proves => Ok(upper_line(alloc, timed, certificate)?),
         Verdict::Negative(row) => Err(TopFault::Unproved(CheckFault::NegativePrice(row))),
@@ -83,15 +86,20 @@ fn judge<'a>(
 }
 
 /// The rate that the certificate in some bytes proves for a platform.
-fn check_of<'a>(alloc: Global, timed: &Timed, bytes: &[u8]) -> Result<String, TopFault<'a>>
+fn check_of<'a>(
+    alloc: Global,
+    timed: &Timed,
+    series: Series,
+    bytes: &[u8],
+) -> Result<String, TopFault<'a>>
     ensures { MatchResult result
-        (λ text. IsCheck timed.now bytes.now (string_bytes text))
-        (λ fault. MayRefuse (check_of_bytes timed.now bytes.now) (refusal_of fault)) }
+        (λ text. IsCheck timed.now series bytes.now (string_bytes text))
+        (λ fault. MayRefuse (check_of_bytes timed.now series bytes.now) (refusal_of fault)) }
 {
-    let lp = tasking_lp(alloc, timed)?;
+    let lp = programme_of(alloc, timed, series)?;
     lp.known();
-    match read_certificate(alloc, Series::Tasking, lp.rows().len() as u32, bytes) {
-        Ok(certificate) => judge(alloc, timed, &lp, &certificate),
+    match read_certificate(alloc, series, lp.rows().len() as u32, bytes) {
+        Ok(certificate) => judge(alloc, timed, series, &lp, &certificate),
         Err(CertificateFault::Line(number)) => Err(TopFault::Unread(ReadingFault::CertificateLine(
             number,
         ))),
@@ -105,14 +113,15 @@ fn check_over<'a, F: Files>(
     files: &mut F,
     name: &'a str,
     timed: &Timed,
+    series: Series,
 ) -> Result<String, TopFault<'a>>
     ensures { MatchResult result
-        (λ text. IsChecked timed.now (F.state files.old) name.now (F.state files.new) (string_bytes text))
-        (λ fault. IsSecondFault (check_of_file timed.now) (F.state files.old) name.now (F.state files.new) (refusal_of fault)) }
+        (λ text. IsChecked timed.now series (F.state files.old) name.now (F.state files.new) (string_bytes text))
+        (λ fault. IsSecondFault (check_of_file timed.now series) (F.state files.old) name.now (F.state files.new) (refusal_of fault)) }
 {
     let long = TopFault::Unread(ReadingFault::LongCertificate);
     let bytes = read_named(alloc, files, name, MOST_CERTIFICATE_BYTES, long)?;
-    check_of(alloc, timed, &bytes)
+    check_of(alloc, timed, series, &bytes)
 }
 
 /// The rate that the certificate in the second file proves for the platform in the first.
@@ -127,7 +136,6 @@ pub(crate) fn check<'a, F: Files>(
         (λ text. IsMade (check name.now second.now series) (F.state files.old) (F.state files.new) (string_bytes text))
         (λ fault. IsCauseFor (check name.now second.now series) (F.state files.old) (F.state files.new) (refusal_of fault)) }
 {
-    let _ = series;
     let timed = read_timed(alloc, files, name)?;
-    check_over(alloc, files, second, &timed)
+    check_over(alloc, files, second, &timed, series)
 }

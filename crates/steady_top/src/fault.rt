@@ -9,6 +9,7 @@ use listed::NoMemory;
 use planner::PlanFault;
 use platform_file::{PlatformFault, TimedFault};
 use schedule_model::Breach;
+use series_flows::ProgrammeFault;
 use std::alloc::Global;
 use std::fmt;
 
@@ -147,6 +148,18 @@ impl From<TimedFault> for TopFault<'_> {
             TimedFault::NoMemory => TopFault::NoMemory,
             fault => TopFault::Ticks(fault),
         }
+    }
+}
+
+impl From<ProgrammeFault> for TopFault<'_> {
+    ghost use Rattle.planner.specs.Plans.{programme_fault};
+    ghost use Rattle.steady_top.specs.Refusals.{plan_refusal};
+    ghost use Rattle.steady_top.specs.Faults.{refusal_of};
+
+    ghost from_gives = { λ fault top. refusal_of top ≡ plan_refusal (programme_fault fault) };
+
+    fn from(fault: ProgrammeFault) -> Self {
+        TopFault::from(PlanFault::from(fault))
     }
 }
 

@@ -24,12 +24,11 @@ fn plan_of<'a>(
     pivots: u64,
 ) -> Result<String, TopFault<'a>>
     ensures { MatchResult result
-        (λ text. IsBestPlan pivots timed.now (string_bytes text))
-        (λ fault. MayRefuse (plan_of pivots timed.now) (refusal_of fault)) }
+        (λ text. IsBestPlan pivots timed.now series (string_bytes text))
+        (λ fault. MayRefuse (plan_of pivots timed.now series) (refusal_of fault)) }
 {
-    let _ = series;
-    let plan = planner::plan(alloc, timed, Series::Tasking, pivots)?;
-    Ok(print_plan(alloc, timed, Series::Tasking, &plan.table)?)
+    let plan = planner::plan(alloc, timed, series, pivots)?;
+    Ok(print_plan(alloc, timed, series, &plan.table)?)
 }
 
 /// The plan text of the platform in the named file.
@@ -56,12 +55,11 @@ fn prices_of<'a>(
     pivots: u64,
 ) -> Result<String, TopFault<'a>>
     ensures { MatchResult result
-        (λ text. IsBestPrices pivots timed.now (string_bytes text))
-        (λ fault. MayRefuse (certificate_for pivots timed.now) (refusal_of fault)) }
+        (λ text. IsBestPrices pivots timed.now series (string_bytes text))
+        (λ fault. MayRefuse (certificate_for pivots timed.now series) (refusal_of fault)) }
 {
-    let _ = series;
-    let certificate = planner::prices(alloc, timed, Series::Tasking, pivots)?;
-    Ok(print_certificate(alloc, Series::Tasking, &certificate)?)
+    let certificate = planner::prices(alloc, timed, series, pivots)?;
+    Ok(print_certificate(alloc, series, &certificate)?)
 }
 
 /// The certificate of the best rate of the platform in the named file.

@@ -1,6 +1,6 @@
 //! Certificates checked.
 
-use super::plans::TWO_WORKERS_PRICES;
+use super::plans::{TWO_WORKERS_MESSAGE_PRICES, TWO_WORKERS_PRICES};
 use super::platforms::{LONE_MASTER, TWO_WORKERS};
 use super::runs::{Run, SOUND, end_so};
 use std::test::Fail;
@@ -18,8 +18,35 @@ const CHECK: Run = Run {
 const GREAT_PRICE: &str =
     "prices 1 tasking\nrows 3\nscale 2\nbest 1\nprice 0 170141183460469231731687303715884105727\nprice 1 0\nprice 2 0\nend\n";
 
-static CHECKS: [Run; 10] = [
+static CHECKS: [Run; 14] = [
     CHECK,
+    Run {
+        words: &["check", "P", "C", "--series", "scatter"],
+        files: [TWO_WORKERS, TWO_WORKERS_MESSAGE_PRICES],
+        text: "upper 1 tasks per 3 ticks, unit 1\n",
+        ..CHECK
+    },
+    Run {
+        words: &["check", "P", "C", "--series", "scatter"],
+        files: [TWO_WORKERS, TWO_WORKERS_MESSAGE_PRICES],
+        changes: &[("price 9 2", "price 9 1", 1)],
+        status: Status::Refused,
+        text: "error: certificate: column 0\n",
+        ..CHECK
+    },
+    Run {
+        words: &["check", "P", "C", "--series", "scatter"],
+        status: Status::Refused,
+        text: "error: certificate: line 1\n",
+        ..CHECK
+    },
+    Run {
+        words: &["check", "P", "C", "--series", "scatter"],
+        files: [LONE_MASTER, "no certificate"],
+        status: Status::Platform,
+        text: "error: platform: no targets\n",
+        ..CHECK
+    },
     Run {
         changes: &[("best 4", "best 5", 1)],
         text: "upper 5 tasks per 6 ticks, unit 1\n",

@@ -1,12 +1,13 @@
 //! Plans and prices.
 
 use super::plans::{
-    CHAIN_PLAN, DIAMOND_PLAN, FRACTION_PLAN, HALVES_PLAN, LONE_MASTER_PLAN, ONE_WORKER_PLAN,
-    ONLY_BACK_PLAN, OUT_OF_REACH_PLAN, SMALL_CLUSTER_PLAN, TWO_WORKERS_PLAN, TWO_WORKERS_PRICES,
+    CHAIN_MESSAGES, CHAIN_PLAN, DIAMOND_PLAN, FRACTION_PLAN, HALVES_PLAN, LONE_MASTER_PLAN, ONE_WORKER_PLAN,
+    ONLY_BACK_PLAN, OUT_OF_REACH_PLAN, SMALL_CLUSTER_PLAN, TWO_WORKERS_MESSAGES,
+    TWO_WORKERS_PLAN, TWO_WORKERS_PRICES,
 };
 use super::platforms::{
     BACK_LINK, CHAIN, DIAMOND, FINE_TIMES, FRACTION, HALVES, LONE_MASTER, LONG_TIMES, ONE_WORKER,
-    ONLY_BACK, OUT_OF_REACH, SMALL_CLUSTER, TWO_WORKERS,
+    ONLY_BACK, OUT_OF_REACH, SIX_TARGETS, SMALL_CLUSTER, TWO_WORKERS,
 };
 use super::runs::{Run, SOUND, end_so};
 use std::test::Fail;
@@ -21,8 +22,39 @@ const PLAN: Run = Run {
     text: LONE_MASTER_PLAN,
 };
 
-static PLANS: [Run; 17] = [
+static PLANS: [Run; 22] = [
     PLAN,
+    Run {
+        words: &["plan", "P", "--series", "scatter"],
+        files: [TWO_WORKERS, ""],
+        text: TWO_WORKERS_MESSAGES,
+        ..PLAN
+    },
+    Run {
+        words: &["plan", "P", "--series", "scatter"],
+        files: [CHAIN, ""],
+        text: CHAIN_MESSAGES,
+        ..PLAN
+    },
+    Run {
+        words: &["plan", "P", "--series", "scatter"],
+        status: Status::Platform,
+        text: "error: platform: no targets\n",
+        ..PLAN
+    },
+    Run {
+        words: &["prices", "P", "--series", "scatter"],
+        status: Status::Platform,
+        text: "error: platform: no targets\n",
+        ..PLAN
+    },
+    Run {
+        words: &["plan", "P", "--series", "scatter"],
+        files: [SIX_TARGETS, ""],
+        status: Status::Overflow,
+        text: "error: period overflow at costs: 999835010541675870768950170379 and 999931\n",
+        ..PLAN
+    },
     Run {
         files: [ONE_WORKER, ""],
         text: ONE_WORKER_PLAN,

@@ -34,3 +34,15 @@ pub const ONLY_BACK_PLAN: &str =
 /// The certificate of two workers.
 pub const TWO_WORKERS_PRICES: &str =
     "prices 1 tasking\nrows 10\nscale 6\nbest 4\nprice 0 1\nprice 1 0\nprice 2 3\nprice 3 0\nprice 4 0\nprice 5 0\nprice 6 0\nprice 7 0\nprice 8 3\nprice 9 6\nend\n";
+
+/// A message for each of two workers.
+pub const TWO_WORKERS_MESSAGES: &str =
+    "plan 1 scatter\nunit 1\nperiod 3\ntasks 1\ndepth 1\nrate 1/3\nroute 0 1 m u\nroute 1 1 m v\nslot 1 0:1\nslot 2 1:1\nend\n";
+
+/// A message for each node of a chain, the second one relayed.
+pub const CHAIN_MESSAGES: &str =
+    "plan 1 scatter\nunit 1\nperiod 2\ntasks 1\ndepth 2\nrate 1/2\nroute 0 1 m a\nroute 1 1 m a b\nslot 1 0:1 2:1\nslot 1 1:1\nend\n";
+
+/// The master's send port, a tick for the first worker's message and two for the second's.
+pub const TWO_WORKERS_MESSAGE_PRICES: &str =
+    "prices 1 scatter\nrows 10\nscale 3\nbest 1\nprice 0 1\nprice 1 0\nprice 2 0\nprice 3 0\nprice 4 0\nprice 5 0\nprice 6 1\nprice 7 0\nprice 8 0\nprice 9 2\nend\n";

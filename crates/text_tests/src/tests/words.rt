@@ -11,7 +11,7 @@ type Row = (
     Result<Command<'static>, WordsFault>,
 );
 
-static ROWS: [Row; 29] = [
+static ROWS: [Row; 32] = [
     (
         &["plan", "P"],
         Ok(Command::Plan {
@@ -50,6 +50,30 @@ static ROWS: [Row; 29] = [
             file: "P",
             series: Series::Tasking,
             pivots: 100000,
+        }),
+    ),
+    (
+        &["plan", "P", "--series", "scatter"],
+        Ok(Command::Plan {
+            file: "P",
+            series: Series::Scatter,
+            pivots: 100000,
+        }),
+    ),
+    (
+        &["prices", "--series=scatter", "P"],
+        Ok(Command::Prices {
+            file: "P",
+            series: Series::Scatter,
+            pivots: 100000,
+        }),
+    ),
+    (
+        &["check", "P", "C", "--series", "scatter"],
+        Ok(Command::Check {
+            file: "P",
+            certificate: "C",
+            series: Series::Scatter,
         }),
     ),
     (

@@ -12,10 +12,10 @@ returns-in_err-bytes g c =
     let t = c.args.timed.now in
     let before = g.F.Files.state c.args.files.now in
     let after = g.F.Files.state c.read_named.new.files in
-    let outcome = check_of_file t in
-    of_error (λ text. IsChecked t before c.args.name.now after (string_bytes text)) c.from_residual.result c.from_residual.ensures.0 c.from_residual.ensures.1
+    let outcome = check_of_file t c.args.series in
+    of_error (λ text. IsChecked t c.args.series before c.args.name.now after (string_bytes text)) c.from_residual.result c.from_residual.ensures.0 c.from_residual.ensures.1
     (λ e is. subst (λ fault. IsSecondFault outcome before c.args.name.now after (refusal_of fault)) (sym is)
-    (unread_is_second outcome before after c.args.name.now most_bytes long_certificate (long_is_refused t) (λ command. refl) (refusal_of c.in_err-bytes.field-0.0) c.in_err-bytes.ensures))
+    (unread_is_second outcome before after c.args.name.now most_bytes long_certificate (long_is_refused t c.args.series) (λ command. refl) (refusal_of c.in_err-bytes.field-0.0) c.in_err-bytes.ensures))
 
 pub returns : goal.returns
 returns g c =
@@ -25,4 +25,4 @@ returns g c =
     let read = second_read before after c.args.name.now most_bytes bytes c.in_ok-bytes.ensures in
     let checked = rw c.deref.ensures.value at c.check_of.ensures in
     both_ways c.check_of.result (λ text is. record { bytes = bytes; read = read; check = is })
-    (λ e. unproved_is_second c.args.timed.now before after c.args.name.now bytes read (refusal_of e)) checked
+    (λ e. unproved_is_second c.args.timed.now c.args.series before after c.args.name.now bytes read (refusal_of e)) checked

@@ -7,8 +7,8 @@ use Rattle.steady_top.proofs.planning.plan_of.Goals as goal
 
 pub returns-in_err-plan : goal.returns-in_err-plan
 returns-in_err-plan c =
-    of_error (λ text. IsBestPlan c.args.pivots c.args.timed.now (string_bytes text)) c.from_residual.result c.from_residual.ensures.0 c.from_residual.ensures.1
-    (λ e is. planner_refuses (plan_of c.args.pivots c.args.timed.now) c.in_err-plan.field-0.0 (refusal_of e) (λ some. ap (planned c.args.pivots c.args.timed.now) (c.in_err-plan.ensures.fault some)) is)
+    of_error (λ text. IsBestPlan c.args.pivots c.args.timed.now c.args.series (string_bytes text)) c.from_residual.result c.from_residual.ensures.0 c.from_residual.ensures.1
+    (λ e is. planner_refuses (plan_of c.args.pivots c.args.timed.now c.args.series) c.in_err-plan.field-0.0 (refusal_of e) (λ some. ap (planned c.args.pivots c.args.timed.now c.args.series) (c.in_err-plan.ensures.fault some)) is)
 
 pub returns : goal.returns
 returns c = search rules

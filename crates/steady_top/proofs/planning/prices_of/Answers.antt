@@ -8,6 +8,6 @@ use Rattle.steady_top.proofs.planning.prices_of.Goals as goal
 
 pub returns-in_err-certificate : goal.returns-in_err-certificate
 returns-in_err-certificate c =
-    of_error (λ text. IsBestPrices c.args.pivots c.args.timed.now (string_bytes text)) c.from_residual.result c.from_residual.ensures.0 c.from_residual.ensures.1
-    (λ e is. planner_refuses (certificate_for c.args.pivots c.args.timed.now) c.in_err-certificate.field-0.0 (refusal_of e)
-    (λ some. ap priced (c.in_err-certificate.ensures.exact (λ same. some (let error : c.in_err-certificate.field-0.0 ≡ plans.NoMemory = cc in error)))) is)
+    of_error (λ text. IsBestPrices c.args.pivots c.args.timed.now c.args.series (string_bytes text)) c.from_residual.result c.from_residual.ensures.0 c.from_residual.ensures.1
+    (λ e is. planner_refuses (certificate_for c.args.pivots c.args.timed.now c.args.series) c.in_err-certificate.field-0.0 (refusal_of e)
+    (λ some. ap (priced c.args.series) (c.in_err-certificate.ensures.exact (λ same. some (let error : c.in_err-certificate.field-0.0 ≡ plans.NoMemory = cc in error)))) is)
