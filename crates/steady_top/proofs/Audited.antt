@@ -67,7 +67,7 @@ one_reason_status periods t bytes first second unsound also = of unsound.reasone
 -- an outcome with a text is no refusal
 pub text_or_refusal : (outcome : Outcome) (refusal : Refusal) → IsText outcome → IsRefusal outcome refusal → ⊥
 text_or_refusal (prints bytes) refusal text is = is
-text_or_refusal (plans pivots t) refusal text is = is
+text_or_refusal (plans pivots t series) refusal text is = is
 text_or_refusal (audits periods t bytes) usage text is = is
 text_or_refusal (audits periods t bytes) (cannot_read name) text is = is
 text_or_refusal (audits periods t bytes) (refused reason) text is = sound_or_unsound periods t bytes reason text is
@@ -77,7 +77,7 @@ text_or_refusal (refuses other) refusal text is = text
 -- an outcome that is printed is no refusal
 pub print_or_refusal : (outcome : Outcome) (text : List ℕ) (refusal : Refusal) → IsPrint outcome text → IsRefusal outcome refusal → ⊥
 print_or_refusal (prints bytes) text refusal print is = is
-print_or_refusal (plans pivots t) text refusal print is = is
+print_or_refusal (plans pivots t series) text refusal print is = is
 print_or_refusal (audits periods t bytes) text usage print is = is
 print_or_refusal (audits periods t bytes) text (cannot_read name) print is = is
 print_or_refusal (audits periods t bytes) text (refused reason) print is = sound_or_unsound periods t bytes reason print.sound is
@@ -87,7 +87,7 @@ print_or_refusal (refuses other) text refusal print is = print
 -- the refusals of an outcome have one status
 pub one_status : (outcome : Outcome) (first second : Refusal) → IsRefusal outcome first → IsRefusal outcome second → status_of first ≡ status_of second
 one_status (prints bytes) first second is also = absurd is
-one_status (plans pivots t) first second is also = absurd is
+one_status (plans pivots t series) first second is also = absurd is
 one_status (audits periods t bytes) usage second is also = absurd is
 one_status (audits periods t bytes) (cannot_read name) second is also = absurd is
 one_status (audits periods t bytes) (refused reason) usage is also = absurd also

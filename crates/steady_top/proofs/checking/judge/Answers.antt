@@ -27,9 +27,11 @@ returns-in_ok-upper_line-in-Proves c =
     let verdict : verdict_of (programme_of t c.args.series) certificate ≡ Proves = rw (← c.requires.programme) (search rules) in
     let is_line : string_bytes c.in_ok-upper_line-in-Proves.field-0 ≡ upper_text t certificate = search rules in
     record {
-      proves = verdict;
-      rate =
-          rate_of t c.args.series c.args.lp.now (nat_abs certificate.best * t.unit) (nat_abs certificate.scale) c.known.ensures c.requires.targets c.requires.programme
-          (λ is. c.check.ensures.tasking_rate t c.known.ensures is proves) (λ some is. c.check.ensures.scatter_rate t c.known.ensures some is proves);
-      is_line = is_line;
+      text = record {
+        proves = verdict;
+        rate =
+            rate_of t c.args.series c.args.lp.now (nat_abs certificate.best * t.unit) (nat_abs certificate.scale) c.known.ensures c.requires.targets c.requires.programme
+            (λ is. c.check.ensures.tasking_rate t c.known.ensures is proves) (λ some is. c.check.ensures.scatter_rate t c.known.ensures some is proves);
+        is_line = is_line;
+      };
     }
