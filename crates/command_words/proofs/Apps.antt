@@ -4,7 +4,7 @@ use Rattle.std.proofs.lemmas.Option.{none-some, same_Some}
 use Rattle.clap.specs.Words.{App, Row, Text, is_simple, is_simple_and_free}
 use Rattle.clap.proofs.WalkLemmas.{both}
 use Rattle.clap.proofs.OnLiterals.{clap_on_literals}
-use Rattle.command_words.specs.Words.{plan_app, check_app, audit_app, app_named, found_in, Command, plan, prices, with_pivots, check_of, audit_of, command_with, command_named, command_of}
+use Rattle.command_words.specs.Words.{plan_app, check_app, audit_app, rehearse_app, app_named, found_in, Command, plan, prices, with_pivots, check_of, audit_of, rehearse_of, command_with, command_named, command_of}
 
 pub simple_where_free : (app : App) → is_simple_and_free app ≡ true → is_simple app ≡ true
 simple_where_free app free = (both _ _ free).0
@@ -21,6 +21,10 @@ audit_free : is_simple_and_free audit_app ≡ true
 unfolding clap_on_literals
 audit_free = refl
 
+rehearse_free : is_simple_and_free rehearse_app ≡ true
+unfolding clap_on_literals
+rehearse_free = refl
+
 free_or : (b : Bool) (one : App) (others : Option App) (app : App) → is_simple_and_free one ≡ true
     → (others ≡ Some app → is_simple_and_free app ≡ true) → cond b (Some one) others ≡ Some app → is_simple_and_free app ≡ true
 free_or true one others app free rest is = subst (λ a. is_simple_and_free a ≡ true) (same_Some one app is) free
@@ -31,7 +35,8 @@ named_free word app =
     free_or (bytes_eq word (codes "plan")) _ _ app (plan_free (codes "plan"))
     (free_or (bytes_eq word (codes "prices")) _ _ app (plan_free (codes "prices"))
     (free_or (bytes_eq word (codes "check")) _ _ app check_free
-    (free_or (bytes_eq word (codes "audit")) _ _ app audit_free (λ is. absurd (none-some app is)))))
+    (free_or (bytes_eq word (codes "audit")) _ _ app audit_free
+    (free_or (bytes_eq word (codes "rehearse")) _ _ app rehearse_free (λ is. absurd (none-some app is))))))
 
 -- a word's command is found by what clap reads of it, and then by what was found
 found_or : (b : Bool) (words : List Text) (one : App) (first : List Row → Option Command) (others : Option App)
@@ -47,7 +52,8 @@ named_in_steps word words =
     found_or (bytes_eq word (codes "plan")) words (plan_app (codes "plan")) (with_pivots plan) _ _ _
     (found_or (bytes_eq word (codes "prices")) words (plan_app (codes "prices")) (with_pivots prices) _ _ _
     (found_or (bytes_eq word (codes "check")) words check_app check_of _ _ _
-    (found_or (bytes_eq word (codes "audit")) words audit_app audit_of None (λ rows. None) None refl)))
+    (found_or (bytes_eq word (codes "audit")) words audit_app audit_of _ _ _
+    (found_or (bytes_eq word (codes "rehearse")) words rehearse_app rehearse_of None (λ rows. None) None refl))))
 
 -- words whose first one names a command are those that clap reads
 pub first_named : {X : Type 0} (text : X → Text) (items : List X) (word : X) (app : App) → Some word ≡ slice_get items 0 → app_named (text word) ≡ Some app

@@ -5,7 +5,7 @@ use Rattle.command_words.specs.declared.command.Command.{Command}
 use Rattle.command_words.specs.declared.command.Command.TheVariants as word
 use Rattle.command_words.specs.declared.command.WordsFault.{WordsFault}
 use Rattle.command_words.specs.declared.command.WordsFault.TheVariants.{Usage, NoMemory}
-use Rattle.command_words.specs.Words.{plan, prices, check, audit, command_of}
+use Rattle.command_words.specs.Words.{plan, prices, check, audit, rehearse, command_of}
 use Rattle.command_words.specs.Words.{Command as Meaning}
 
 -- each command is the one of its name
@@ -14,6 +14,7 @@ meaning_of (word.Plan file series pivots) = plan file.now series pivots
 meaning_of (word.Prices file series pivots) = prices file.now series pivots
 meaning_of (word.Check file certificate series) = check file.now certificate.now series
 meaning_of (word.Audit file other periods) = audit file.now other.now periods
+meaning_of (word.Rehearse file other chunk seed pivots) = rehearse file.now other.now chunk seed pivots
 
 -- words are refused where they give no command; memory may run out at any time
 abbrev pub IsWordsFault : List Text → WordsFault → Type 0

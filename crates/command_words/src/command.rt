@@ -30,6 +30,14 @@ pub enum Command<'a> {
         plan: &'a str,
         periods: u64,
     },
+    /// `rehearse FILE DATA`: carry the plan out on one thread over the data in chunks of so many bytes, in an order drawn from a seed.
+    Rehearse {
+        file: &'a str,
+        data: &'a str,
+        chunk: u32,
+        seed: u64,
+        pivots: u64,
+    },
 }
 
 /// Why words give no command.

@@ -2,7 +2,7 @@
 
 ghost use Rattle.std.specs.Prelude.{◌≡◌, ◌≢◌, Some, None, true, false, map, option_map, IfOk, IfErr, string_bytes};
 ghost use Rattle.clap.specs.Words.{app_of, rule_of, rows_of, found_of, is_simple_and_free};
-ghost use Rattle.command_words.specs.Words.{name_rule, option_rule, bare_app, plan_app, check_app, audit_app, app_named, found_in};
+ghost use Rattle.command_words.specs.Words.{name_rule, option_rule, bare_app, plan_app, check_app, audit_app, rehearse_names, rehearse_app, app_named, found_in};
 
 use crate::command::WordsFault;
 use clap::error::ErrorKind;
@@ -90,6 +90,25 @@ fn audit_command<'a>(alloc: Global) -> Result<Command<'a>, AllocError>
         .arg(option(alloc, "periods"))
 }
 
+/// The two names of the command `rehearse`.
+fn rehearse_names<'a>(alloc: Global) -> Result<Command<'a>, AllocError>
+    ensures { IfOk result (λ command. app_of command ≡ rehearse_names) }
+{
+    bare(alloc, "rehearse")
+        .arg(name(alloc, "FILE"))?
+        .arg(name(alloc, "DATA"))
+}
+
+/// The command `rehearse`: two files, the bytes of a chunk, a seed and a bound on pivots.
+fn rehearse_command<'a>(alloc: Global) -> Result<Command<'a>, AllocError>
+    ensures { IfOk result (λ command. app_of command ≡ rehearse_app) }
+{
+    rehearse_names(alloc)?
+        .arg(option(alloc, "chunk"))?
+        .arg(option(alloc, "seed"))?
+        .arg(option(alloc, "pivots"))
+}
+
 /// What clap is to read of the words of a command.
 pub(crate) fn clap_command<'a>(alloc: Global, word: &str) -> Result<Option<Command<'a>>, AllocError>
     ensures { IfOk result (λ found. option_map app_of found ≡ app_named word.now) }
@@ -99,6 +118,7 @@ pub(crate) fn clap_command<'a>(alloc: Global, word: &str) -> Result<Option<Comma
         "prices" => plan_command(alloc, "prices")?,
         "check" => check_command(alloc)?,
         "audit" => audit_command(alloc)?,
+        "rehearse" => rehearse_command(alloc)?,
         _ => return Ok(None),
     }))
 }

@@ -1,8 +1,8 @@
 //! The command of words.
 
-ghost use Rattle.std.specs.Prelude.{◌≡◌, ℕ, Some, map, option_map, string_bytes, MatchResult};
+ghost use Rattle.std.specs.Prelude.{◌≡◌, ℕ, Some, map, option_map, codes, string_bytes, MatchResult};
 ghost use Rattle.clap.specs.Words.{Text, first_of, rows_of, found_of};
-ghost use Rattle.command_words.specs.Words.{Command as Meaning, command_of, series_given, number_given, with_pivots, check_of, audit_of, command_with};
+ghost use Rattle.command_words.specs.Words.{Command as Meaning, command_of, series_given, number_given, number_between, pivots_given, with_pivots, check_of, audit_of, rehearsal_of, rehearse_of, command_with};
 ghost use Rattle.command_words.specs.Meanings.{meaning_of, IsWordsFault};
 
 use crate::command::{Command, WordsFault};
@@ -24,6 +24,12 @@ const PERIODS: u64 = 4;
 /// The greatest number of periods that can be given.
 const MOST_PERIODS: u64 = 1000000;
 
+/// The bytes of a chunk where no number is given.
+const CHUNK: u64 = 65536;
+
+/// The most bytes of a chunk that can be given.
+const MOST_CHUNK: u64 = 16777216;
+
 /// The series of a text, and that of tasks where none is given.
 fn series_given(text: Option<&str>) -> Option<Series>
     ensures { result ≡ series_given (option_map (λ s. s.now) text.entry) }
@@ -44,6 +50,13 @@ fn number_given(text: Option<&str>, most: u64, default: u64) -> Option<u64>
         None => Some(default),
         Some(text) => number_of(text.as_bytes(), u128::from(most)).map(|number| number as u64),
     }
+}
+
+/// A number from a least one up to a bound, and another where none is given.
+fn number_between(text: Option<&str>, least: u64, most: u64, default: u64) -> Option<u64>
+    ensures { result ≡ number_between least most default (option_map (λ s. s.now) text.entry) }
+{
+    number_given(text, most, default).filter(|number| *number >= least)
 }
 
 /// What was found under an id.
@@ -86,6 +99,42 @@ fn audit_of<'a>(matches: &ArgMatches<'a>) -> Option<Command<'a>>
     })
 }
 
+/// A bound on pivots.
+fn pivots_given(matches: &ArgMatches<'_>) -> Option<u64>
+    ensures { result ≡ pivots_given (rows_of (found_of matches.now)) }
+{
+    number_given(text_of(matches, "pivots"), MOST_PIVOTS, PIVOTS)
+}
+
+/// The bytes of a chunk.
+fn chunk_given(matches: &ArgMatches<'_>) -> Option<u32>
+    ensures { result ≡ number_between 1 16777216 65536 (first_of (codes "chunk") (rows_of (found_of matches.now))) }
+{
+    number_between(text_of(matches, "chunk"), 1, MOST_CHUNK, CHUNK).map(|bytes| bytes as u32)
+}
+
+/// `rehearse` with its two names, and what else was found of it.
+fn rehearsal_of<'a>(file: &'a str, other: &'a str, matches: &ArgMatches<'a>) -> Option<Command<'a>>
+    ensures { option_map meaning_of result ≡ rehearsal_of file.now other.now (rows_of (found_of matches.now)) }
+{
+    Some(Command::Rehearse {
+        file,
+        data: other,
+        chunk: chunk_given(matches)?,
+        seed: number_given(text_of(matches, "seed"), u64::MAX, 0)?,
+        pivots: pivots_given(matches)?,
+    })
+}
+
+/// `rehearse`, with what was found of it.
+fn rehearse_of<'a>(matches: &ArgMatches<'a>) -> Option<Command<'a>>
+    ensures { option_map meaning_of result ≡ rehearse_of (rows_of (found_of matches.now)) }
+{
+    let file = text_of(matches, "FILE")?;
+    let data = text_of(matches, "DATA")?;
+    rehearsal_of(file, data, matches)
+}
+
 /// The command that a word names, with what was found of it.
 fn command_with<'a>(word: &str, matches: &ArgMatches<'a>) -> Option<Command<'a>>
     ensures { option_map meaning_of result ≡ command_with word.now (rows_of (found_of matches.now)) }
@@ -109,12 +158,13 @@ fn command_with<'a>(word: &str, matches: &ArgMatches<'a>) -> Option<Command<'a>>
         }
         "check" => check_of(matches),
         "audit" => audit_of(matches),
+        "rehearse" => rehearse_of(matches),
         _ => None,
     }
 }
 
 /// The command that the words give: `plan FILE` and `prices FILE` with `--series` and `--pivots`, `check FILE CERTIFICATE` with
-/// `--series`, and `audit FILE PLAN` with `--periods`.
+/// `--series`, `audit FILE PLAN` with `--periods`, and `rehearse FILE DATA` with `--chunk`, `--seed` and `--pivots`.
 ///
 /// # Errors
 ///
