@@ -1,0 +1,10 @@
+pub mod Totals
+pub mod Counting
+pub mod Histories
+mod Allowed
+mod Ports
+mod Standing
+mod Guards
+mod Refusals
+mod Onward
+mod Lengths

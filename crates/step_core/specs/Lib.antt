@@ -1,0 +1,5 @@
+pub mod Wirings
+pub mod Tasks
+pub mod Histories
+pub mod States
+pub mod Paced
