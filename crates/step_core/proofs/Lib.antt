@@ -1,5 +1,6 @@
 pub mod Totals
 pub mod Counting
+mod Tasks
 pub mod Histories
 mod Allowed
 mod Ports
