@@ -1,5 +1,5 @@
 -- The pieces of the first line, joined.
-use Rattle.std.proofs.Common.{◌≡◌, ℕ, List, [], ◌∷◌, ◌++◌, codes, decimal, rules, append_assoc, refl}
+use Rattle.std.proofs.Common.{◌≡◌, ℕ, List, [], ◌∷◌, ◌++◌, codes, decimal, append_assoc}
 use Rattle.text_lines.specs.Lines.{line}
 use Rattle.period_table.specs.declared.table.Table.{Table}
 use Rattle.run_text.specs.Batches.{batches_of, run_periods}
@@ -18,4 +18,4 @@ pub run_joined : (table : Table) (chunks events first second third fourth : ℕ)
     new ≡ old ++ line (run_line table chunks events)
 run_joined table chunks events first second third fourth old one two three four new a b c d e f g h i =
     rw (i, h, g, f, e, a, b, c, d) (in_turn old (codes "run 1 chunks ") (decimal chunks) (codes " batches ") (decimal (batches_of table.tasks chunks))
-        (codes " periods ") (decimal (run_periods table chunks)) (codes " events ") (decimal events) (10 ∷ []))
+    (codes " periods ") (decimal (run_periods table chunks)) (codes " events ") (decimal events) (10 ∷ []))

@@ -2,7 +2,7 @@
 use Rattle.std.specs.Prelude.{◌≡◌, ℕ, ◌+◌, ◌^◌, ◌<◌, List, [], ◌∷◌, ◌++◌, length, All, codes, decimal}
 use Rattle.hex.specs.Hex.{encode_lower}
 use Rattle.platform_file.specs.Platform.{NodeView}
-use Rattle.platform_file.specs.Ticks.{TimedView, IsTimed}
+use Rattle.platform_file.specs.Ticks.{TimedView}
 use Rattle.text_lines.specs.Lines.{line}
 use Rattle.period_table.specs.declared.table.Table.{Table}
 use Rattle.run_text.specs.Batches.{batches_of, run_periods}
@@ -42,11 +42,8 @@ report_text t table events results counts =
     ++ (nodes_text t.platform.nodes counts
     ++ line (codes "end")))
 
--- what can be reported: machine numbers, digests of 32 bytes, and a count for each node
-pub record IsReportable (t : TimedView) (table : Table) (events : ℕ) (results : List (List ℕ)) (counts : List ℕ) : Type 0 where
-  pub timed : IsTimed t
-  pub tasks : table.tasks < 2 ^ 128
-  pub depth : table.depth < 2 ^ 32
+-- what can be reported of a platform: machine numbers, digests of 32 bytes, and a count for each node
+pub record IsReportable (t : TimedView) (events : ℕ) (results : List (List ℕ)) (counts : List ℕ) : Type 0 where
   pub small_events : events < 2 ^ 64
   pub digests : All (λ digest. length digest ≡ 32) results
   pub small_counts : All (λ count. count < 2 ^ 64) counts

@@ -2,8 +2,6 @@
 
 ghost use Rattle.std.specs.Prelude.{◌≡◌, ◌≤◌, ◌<◌, ◌+◌, ◌*◌, ◌^◌, ℕ, List, ◌++◌, ◌∷◌, [], length, codes, decimal, IfOk, vec_len, vec_capacity};
 ghost use Rattle.text_lines.specs.Lines.{line};
-ghost use Rattle.platform_file.specs.Ticks.{TimedView};
-ghost use Rattle.period_table.specs.declared.table.Table.{Table};
 ghost use Rattle.period_table.specs.Tables.{Fits};
 ghost use Rattle.schedule_model.specs.declared.schedule.Series.TheVariants.{Tasking};
 ghost use Rattle.run_text.specs.Reports.{run_line, digest_line, digests_text, node_line, nodes_text, report_text, IsReportable};
@@ -110,12 +108,14 @@ pub fn report_into(
     push_text(into, b"end\n");
 }
 
-/// Room for the report of so many chunks, in bytes, whatever its numbers and names.
-pub fn report_room(chunks: u64) -> u128
-    ensures { (t : TimedView) (table : Table) (events : ℕ) (results : List (List ℕ)) (counts : List ℕ)
-        → IsReportable t table events results counts → length results ≡ chunks
-        → length (report_text t table events results counts) ≤ result }
+/// Room for the report of so many chunks, in bytes, whatever its digests and its counts.
+pub fn report_room(timed: &Timed, table: &Table, chunks: u64) -> u128
+    ensures { (events : ℕ) (results : List (List ℕ)) (counts : List ℕ) → IsReportable timed.now events results counts
+        → length results ≡ chunks → length (report_text timed.now table.now events results counts) ≤ result }
 {
+    timed.known();
+    // These are read so that it is known that each fits its type.
+    let (_tasks, _depth) = (table.tasks, table.depth);
     u128::from(chunks) * DIGEST_LINE + OTHER_LINES
 }
 
@@ -137,10 +137,9 @@ pub fn print_report(
     requires none { table.now.tasks ≡ 0 → length results.now ≡ 0 }
     ensures { IfOk result (λ text. text.items ≡ report_text timed.now table.now events results.now counts.now) }
 {
-    let Ok(room) = usize::try_from(report_room(results.len() as u64)) else {
+    let Ok(room) = usize::try_from(report_room(timed, table, results.len() as u64)) else {
         return Err(NoMemory);
     };
-    timed.known();
     let mut text = Vec::with_capacity(alloc, room)?;
     report_into(timed, table, events, results, counts, &mut text);
     Ok(text)
