@@ -1,2 +1,3 @@
 pub mod Batches
 pub mod Reports
+pub mod Counts
