@@ -40,6 +40,12 @@ pub data Reason : Type 0 where
   plan_line : ℕ → Reason
   -- the plan's schedule has too many operations
   long_operations : Reason
+  -- there is something to compute, and no node that can be reached computes
+  nothing_computes : Reason
+  -- the data's file is too long
+  long_data : Reason
+  -- the run has too many events
+  long_events : Reason
   -- this operation of the plan's schedule is the first that breaks a rule, and this is the first that it breaks
   breach : ℕ → Rule → Reason
 
@@ -84,6 +90,9 @@ reason_status (uncovered_column column) = status.Refused
 reason_status passed_value = status.Refused
 reason_status long_plan = status.TooLong
 reason_status long_operations = status.TooLong
+reason_status nothing_computes = status.Platform
+reason_status long_data = status.TooLong
+reason_status long_events = status.TooLong
 reason_status (plan_line number) = status.Refused
 reason_status (breach index rule) = status.Refused
 
@@ -108,6 +117,9 @@ reason_text (check_overflow column) = codes "check overflow at column " ++ decim
 reason_text long_plan = codes "too long: plan"
 reason_text (plan_line number) = codes "plan: line " ++ decimal number
 reason_text long_operations = codes "too long: operations"
+reason_text nothing_computes = codes "no node that can be reached computes"
+reason_text long_data = codes "too long: data"
+reason_text long_events = codes "too long: events"
 reason_text (breach index rule) = breach_text (record { index = index; rule = rule })
 
 -- the error line's text after `error: `
