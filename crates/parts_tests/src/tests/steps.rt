@@ -1,7 +1,7 @@
 //! Node steps over a wiring that was worked out by hand.
 
 ghost use Rattle.std.specs.Prelude.{◌≡◌, ◌<◌, ◌∷◌, [], length, IfOk};
-ghost use Rattle.step_core.specs.declared.wiring.Event.TheVariants.{Take, Open, Close, Done};
+ghost use Rattle.step_core.specs.declared.wiring.Event.TheVariants.{Open, Close};
 ghost use Rattle.step_core.specs.States.{IsStateOf};
 ghost use Rattle.parts_tests.specs.Relays.{relay_lanes, sends_two, sends_one, passes_on, relay};
 
