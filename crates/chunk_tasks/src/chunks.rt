@@ -4,7 +4,7 @@ ghost use Rattle.std.specs.Prelude.{◌≡◌, ℕ, ◌≤◌, ◌<◌, ◌*◌,
 ghost use Rattle.sha2.specs.Sha256.{sha256};
 ghost use Rattle.chunk_tasks.specs.Chunks.{chunk_at, chunk_count, items_of, chunks_of, digests_of};
 
-use listed::{Listed, NoMemory};
+use listed::NoMemory;
 use std::alloc::Global;
 use std::marker::Model;
 
@@ -73,22 +73,23 @@ fn chunk(alloc: Global, bytes: &[u8], size: usize, number: usize) -> Result<Item
 }
 
 /// Cuts data into chunks of `size` bytes, the last one perhaps shorter, numbered from 0; empty data gives none. Each byte is
-/// copied once, and each chunk takes one allocation.
+/// copied once; the list takes one allocation, and so does each chunk.
 ///
 /// # Errors
 ///
 /// `NoMemory` where memory runs out.
-pub fn cut(alloc: Global, bytes: &[u8], size: u32) -> Result<Listed<Item>, NoMemory>
+pub fn cut(alloc: Global, bytes: &[u8], size: u32) -> Result<Vec<Item>, NoMemory>
     requires { 1 ≤ size }
-    ensures items { IfOk result (λ items. items ≡ items_of size bytes.now) }
-    ensures chunks { IfOk result (λ items. map (λ item. item.bytes) items ≡ chunks_of size bytes.now) }
-    ensures digests { IfOk result (λ items. map (λ item. sha256 item.bytes) items ≡ digests_of size bytes.now) }
-    ensures count { IfOk result (λ items. length items ≡ chunk_count size bytes.now) }
-    ensures few { IfOk result (λ items. length items ≤ length bytes.now) }
+    ensures items { IfOk result (λ cut. cut.items ≡ items_of size bytes.now) }
+    ensures chunks { IfOk result (λ cut. map (λ item. item.bytes) cut.items ≡ chunks_of size bytes.now) }
+    ensures digests { IfOk result (λ cut. map (λ item. sha256 item.bytes) cut.items ≡ digests_of size bytes.now) }
+    ensures count { IfOk result (λ cut. length cut.items ≡ chunk_count size bytes.now) }
+    ensures few { IfOk result (λ cut. length cut.items ≤ length bytes.now) }
 {
     let size = size as usize;
-    let mut items = Listed::new(alloc);
-    for number in 0..chunk_count(bytes, size) {
+    let count = chunk_count(bytes, size);
+    let mut items = Vec::with_capacity(alloc, count)?;
+    for number in 0..count {
         items.push(chunk(alloc, bytes, size, number)?)?;
     }
     Ok(items)

@@ -62,8 +62,9 @@ pub fn digest_chunks(alloc: Global, bytes: &[u8], size: u32) -> Result<Vec<[u8; 
     ensures { IfOk result (λ digests. digests.items ≡ digests_of size bytes.now) }
 {
     let size = size as usize;
-    let mut digests = Vec::new(alloc);
-    for number in 0..chunk_count(bytes, size) {
+    let count = chunk_count(bytes, size);
+    let mut digests = Vec::with_capacity(alloc, count)?;
+    for number in 0..count {
         digests.push(Sha256::digest(chunk_at(bytes, size, number)))?;
     }
     Ok(digests)
