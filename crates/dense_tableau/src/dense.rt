@@ -98,6 +98,7 @@ impl Tableau for Dense {
         let width = self.columns() as usize;
         if let Some((row, column)) = pivot_cells(
             self.cells.as_mut_slice(),
+            self.basics.as_slice(),
             width,
             row,
             column,

@@ -53,8 +53,8 @@ fn first_overflow(
     overflow_among(cells, &cells[start..start + width], row, column, rows)
 }
 
-/// Changes one row as a pivot does, where it doesn't overflow.
-fn change_at(cells: &mut [i128], pivot_row: &[i128], other: u32, column: u32)
+/// Changes one row as a pivot does, where it doesn't overflow. Only the time depends on its basic column.
+fn change_at(cells: &mut [i128], pivot_row: &[i128], other: u32, column: u32, basic: u32)
     requires within { (other + 1) * length pivot_row.now ≤ length cells.old }
     requires column { column < length pivot_row.now }
     requires positive { pos 0 <ℤ entry pivot_row.now column }
@@ -66,11 +66,12 @@ fn change_at(cells: &mut [i128], pivot_row: &[i128], other: u32, column: u32)
 {
     let start = other as usize * pivot_row.len();
     let line = &mut cells[start..start + pivot_row.len()];
-    change_row(line, pivot_row, column);
+    change_row(line, pivot_row, column, basic);
 }
 
 /// Changes all rows of a part of a tableau as a pivot does, where none overflows.
-fn change_rows(cells: &mut [i128], pivot_row: &[i128], column: u32, rows: u32)
+fn change_rows(cells: &mut [i128], pivot_row: &[i128], basics: &[u32], column: u32, rows: u32)
+    requires basics { rows ≤ length basics.now }
     requires whole { length cells.old ≡ rows * length pivot_row.now }
     requires column { column < length pivot_row.now }
     requires positive { pos 0 <ℤ entry pivot_row.now column }
@@ -81,12 +82,20 @@ fn change_rows(cells: &mut [i128], pivot_row: &[i128], column: u32, rows: u32)
         → cell_of (length pivot_row.now) cells.new i j ≡ changed_row (length pivot_row.now) (entry pivot_row.now) (cell_of (length pivot_row.now) cells.old i) column j }
 {
     for other in 0..rows {
-        change_at(cells, pivot_row, other, column);
+        change_at(cells, pivot_row, other, column, basics[other as usize]);
     }
 }
 
 /// Changes the rows before the pivot's and those behind it as a pivot does, where none overflows.
-fn change_others(cells: &mut [i128], width: usize, row: u32, column: u32, rows: u32)
+fn change_others(
+    cells: &mut [i128],
+    basics: &[u32],
+    width: usize,
+    row: u32,
+    column: u32,
+    rows: u32,
+)
+    requires basics { length basics.now ≡ rows }
     requires whole { length cells.old ≡ rows * width }
     requires row { row < rows }
     requires column { column < width }
@@ -99,19 +108,28 @@ fn change_others(cells: &mut [i128], width: usize, row: u32, column: u32, rows: 
 {
     let (before, rest) = cells.split_at_mut(row as usize * width);
     let (pivot_row, behind) = rest.split_at_mut(width);
-    change_rows(before, pivot_row, column, row);
-    change_rows(behind, pivot_row, column, rows - row - 1);
+    let (basics_before, basics_from) = basics.split_at(row as usize);
+    change_rows(before, pivot_row, basics_before, column, row);
+    change_rows(
+        behind,
+        pivot_row,
+        &basics_from[1..],
+        column,
+        rows - row - 1,
+    );
 }
 
 /// Pivots on a row and a column, or tells the first cell at which that overflows and leaves the tableau.
 pub fn pivot_cells(
     cells: &mut [i128],
+    basics: &[u32],
     width: usize,
     row: u32,
     column: u32,
     rows: u32,
 ) -> Option<(u32, u32)>
     requires whole { length cells.old ≡ rows * width }
+    requires basics { length basics.now ≡ rows }
     requires narrow { width < 2 ^ 32 }
     requires row { row < rows }
     requires column { column < width }
@@ -126,6 +144,6 @@ pub fn pivot_cells(
     if let Some(place) = first_overflow(cells, width, row, column, rows) {
         return Some(place);
     }
-    change_others(cells, width, row, column, rows);
+    change_others(cells, basics, width, row, column, rows);
     None
 }

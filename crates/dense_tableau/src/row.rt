@@ -135,7 +135,8 @@ fn difference_of_products(by: &Multipliers, cell: i128, pivot_cell: i128) -> i12
     by.own * cell - by.pivot * pivot_cell
 }
 
-/// Makes a cell its combination with the one below it in the pivot's row. Most cells of a sparse programme are 0 in both, and stay.
+/// Makes a cell its combination with the one below it in the pivot's row. A cell above a 0 stays where its own factor is 1, and so does a
+/// 0, as most cells of a sparse programme are.
 fn combine_at(row: &mut [i128], pivot_row: &[i128], by: &Multipliers, j: usize)
     requires same { length row.old ≡ length pivot_row.now }
     requires within { j < length row.old }
@@ -145,9 +146,9 @@ fn combine_at(row: &mut [i128], pivot_row: &[i128], by: &Multipliers, j: usize)
     ensures small { nat_abs (entry row.new j) < 2 ^ 127 }
     ensures beside { (k : ℕ) → k ≢ j → entry row.new k ≡ entry row.old k }
 {
-    let (cell, pivot_cell) = (row[j], pivot_row[j]);
-    if cell != 0 || pivot_cell != 0 {
-        row[j] = difference_of_products(by, cell, pivot_cell);
+    let pivot_cell = pivot_row[j];
+    if pivot_cell != 0 || (by.own != 1 && row[j] != 0) {
+        row[j] = difference_of_products(by, row[j], pivot_cell);
     }
 }
 
@@ -210,20 +211,35 @@ fn divide(row: &mut [i128], divisor: u128)
     }
 }
 
-/// Divides a row by the greatest common divisor of its cells.
-fn reduce(row: &mut [i128])
+/// Whether a row is 1 or -1 in a column, which leaves it no greater divisor.
+fn is_unit_at(row: &[i128], column: u32) -> bool
+    ensures { result ≡ true → row_divisor (length row.now) (entry row.now) ≡ 1 }
+{
+    match row.get(column as usize) {
+        Some(cell) => cell.unsigned_abs() == 1,
+        None => false,
+    }
+}
+
+/// Divides a row by the greatest common divisor of its cells, which is looked for at one column first, and along the row where it isn't
+/// 1 there.
+fn reduce(row: &mut [i128], likely: u32)
     requires { (j : ℕ) → j < length row.old → nat_abs (entry row.old j) < 2 ^ 127 }
     ensures length { length row.new ≡ length row.old }
     ensures reduced { (j : ℕ) → j < length row.old → entry row.new j ≡ int_div (entry row.old j) (pos (row_divisor (length row.old) (entry row.old))) }
 {
+    if is_unit_at(row, likely) {
+        return;
+    }
     let divisor = divisor_of(row);
     if divisor > 1 {
         divide(row, divisor);
     }
 }
 
-/// Changes a row as a pivot does, where it doesn't overflow: a row that is 0 in the pivot's column stays.
-pub fn change_row(row: &mut [i128], pivot_row: &[i128], column: u32)
+/// Changes a row as a pivot does, where it doesn't overflow: a row that is 0 in the pivot's column stays. In its basic column it mostly is
+/// 1, so that there is nothing to divide.
+pub fn change_row(row: &mut [i128], pivot_row: &[i128], column: u32, basic: u32)
     requires same { length row.old ≡ length pivot_row.now }
     requires column { column < length row.old }
     requires positive { pos 0 <ℤ entry pivot_row.now column }
@@ -237,5 +253,5 @@ pub fn change_row(row: &mut [i128], pivot_row: &[i128], column: u32)
     }
     let by = multipliers_of(pivot_row[column as usize], cell);
     combine(row, pivot_row, &by, column);
-    reduce(row);
+    reduce(row, basic);
 }
