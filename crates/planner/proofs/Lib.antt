@@ -7,3 +7,6 @@ pub mod Rooms
 pub mod Parted
 pub mod Made
 pub mod Rated
+pub mod OneParts
+pub mod OneRoutes
+pub mod OneTable

@@ -2,6 +2,7 @@
 #![tactic(auto)]
 
 mod fault;
+mod laws;
 mod making;
 mod planned;
 mod planning;
@@ -9,6 +10,7 @@ mod pricing;
 mod scaling;
 
 pub use fault::PlanFault;
+pub use laws::plans_are_one;
 pub use making::table_of;
 pub use planned::Plan;
 pub use planning::plan;
