@@ -1,0 +1,5 @@
+use Rattle.std.proofs.Common.{rules}
+use Rattle.run_text.proofs.batches.periods.Goals as goal
+
+pub returns : goal.returns
+returns c = search rules
