@@ -35,13 +35,13 @@ newest h e event is = sym (get_or-append_seam h e [] event) ∙ get_or_from_slic
 pub rehearsed-more : (w : WiringView) (seed : ℕ) (h : List Event) (e : Event) → IsRehearsed w seed h
     → IsChosen w h (number_after seed (length h + 1)) e → IsRehearsed w seed (h ++ e ∷ [])
 rehearsed-more w seed h e old chosen k event is = elim (cases_lt k (length h)) [
-    | inl less ↦ rw (take-append-le k h (e ∷ []) (omega arith)) (old k event (earlier h e k event less is))
-    | inr least ↦
-        let within : k < length (h ++ e ∷ []) = slice_get_within (h ++ e ∷ []) k event is in
-        let longer : length (h ++ e ∷ []) ≡ length h + 1 = length-append h (e ∷ []) in
-        let same : k ≡ length h = omega arith in
-        let here : IsChosen w (take (length h) (h ++ e ∷ [])) (number_after seed (length h + 1)) e = rw (take-append_seam h (e ∷ [])) chosen in
-        let is' : slice_get (h ++ e ∷ []) (length h) ≡ Some event = subst (λ (j : ℕ). slice_get (h ++ e ∷ []) j ≡ Some event) same is in
-        let of_event = subst (λ (x : Event). IsChosen w (take (length h) (h ++ e ∷ [])) (number_after seed (length h + 1)) x) (newest h e event is') here in
-        subst (λ (j : ℕ). IsChosen w (take j (h ++ e ∷ [])) (number_after seed (j + 1)) event) (sym same) of_event
-  ]
+  | inl less ↦ rw (take-append-le k h (e ∷ []) (omega arith)) (old k event (earlier h e k event less is))
+  | inr least ↦
+      let within : k < length (h ++ e ∷ []) = slice_get_within (h ++ e ∷ []) k event is in
+      let longer : length (h ++ e ∷ []) ≡ length h + 1 = length-append h (e ∷ []) in
+      let same : k ≡ length h = omega arith in
+      let here : IsChosen w (take (length h) (h ++ e ∷ [])) (number_after seed (length h + 1)) e = rw (take-append_seam h (e ∷ [])) chosen in
+      let is' : slice_get (h ++ e ∷ []) (length h) ≡ Some event = subst (λ (j : ℕ). slice_get (h ++ e ∷ []) j ≡ Some event) same is in
+      let of_event = subst (λ (x : Event). IsChosen w (take (length h) (h ++ e ∷ [])) (number_after seed (length h + 1)) x) (newest h e event is') here in
+      subst (λ (j : ℕ). IsChosen w (take j (h ++ e ∷ [])) (number_after seed (j + 1)) event) (sym same) of_event
+]

@@ -1,8 +1,8 @@
 -- Which actor makes each event of a rehearsal, as its seed decides.
-use Rattle.std.specs.Prelude.{◌≡◌, ℕ, zero, suc, ◌+◌, ◌*◌, ◌/◌, ◌%◌, ◌^◌, ◌<◌, List, [], ◌∷◌, ◌++◌, length, take, slice_get, Some}
+use Rattle.std.specs.Prelude.{◌≡◌, ℕ, zero, suc, ◌+◌, ◌*◌, ◌/◌, ◌%◌, ◌^◌, ◌<◌, List, length, take, slice_get, Some}
 use Rattle.step_core.specs.declared.wiring.Event.{Event}
 use Rattle.step_core.specs.Wirings.{WiringView}
-use Rattle.step_core.specs.Histories.{next_of, IsLegal}
+use Rattle.step_core.specs.Histories.{IsEnabled}
 
 -- the number that follows another
 abbrev pub turned : ℕ → ℕ
@@ -20,10 +20,6 @@ drawn_by actors x = (x / 2 ^ 33) % actors
 -- the actor that is tried once so many others, cyclically from the first, have been tried
 abbrev pub tried_after : ℕ → ℕ → ℕ → ℕ
 tried_after actors first others = (first + others) % actors
-
--- the actor's next event is this one, and the history with it is legal
-abbrev pub IsEnabled : WiringView → List Event → ℕ → Event → Type 0
-IsEnabled w h actor e = (next_of w h actor ≡ Some e) × IsLegal w (h ++ e ∷ [])
 
 -- the event is enabled at an actor, and none is at those that are tried before it
 pub record IsFirstFrom (w : WiringView) (h : List Event) (first : ℕ) (e : Event) : Type 0 where

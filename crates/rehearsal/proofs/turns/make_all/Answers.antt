@@ -10,9 +10,9 @@ loop-made-preserved c =
     let old = c.loop-made.invariant in
     let longer = length-append h (c.turn-event.result ∷ []) in
     let number : c.turned-number.result ≡ number_after c.args.seed (c.loop-made._made + 1) =
-        c.turned-number.ensures ∙ ap turned old.number ∙ number-next c.args.seed c.loop-made._made in
+    c.turned-number.ensures ∙ ap turned old.number ∙ number-next c.args.seed c.loop-made._made in
     let chosen : IsChosen w h (number_after c.args.seed (length h + 1)) c.turn-event.result =
-        rw (old.made, ← number) (c.turn-event.ensures.chosen h old.state) in
+    rw (old.made, ← number) (c.turn-event.ensures.chosen h old.state) in
     record {
       state = rw c.push_reserved.ensures.items (c.turn-event.ensures.made h old.state);
       made = omega (arith, ap length c.push_reserved.ensures.items, longer, old.made);
