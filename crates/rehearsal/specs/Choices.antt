@@ -31,6 +31,6 @@ pub record IsFirstFrom (w : WiringView) (h : List Event) (first : ℕ) (e : Even
 abbrev pub IsChosen : WiringView → List Event → ℕ → Event → Type 0
 IsChosen w h x e = IsFirstFrom w h (drawn_by (length w.programs) x) e
 
--- each event of a history is the one chosen after those before it, by the number that the seed has become after one more turn than these
+-- the event at each place k, from 0, is chosen after the k events before it, by the number that the seed has become after k + 1 turns
 abbrev pub IsRehearsed : WiringView → ℕ → List Event → Type 0
 IsRehearsed w seed h = (k : ℕ) (e : Event) → slice_get h k ≡ Some e → IsChosen w (take k h) (number_after seed (k + 1)) e
