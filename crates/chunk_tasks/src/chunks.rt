@@ -1,6 +1,6 @@
 //! Chunks of data.
 
-ghost use Rattle.std.specs.Prelude.{◌≡◌, ◌≤◌, ◌<◌, ◌*◌, ◌^◌, length, map, IfOk};
+ghost use Rattle.std.specs.Prelude.{◌≡◌, ℕ, ◌≤◌, ◌<◌, ◌*◌, ◌^◌, length, map, IfOk};
 ghost use Rattle.sha2.specs.Sha256.{sha256};
 ghost use Rattle.chunk_tasks.specs.Chunks.{chunk_at, chunk_count, items_of, chunks_of, digests_of};
 
@@ -39,17 +39,36 @@ impl Item {
     }
 }
 
+/// How many chunks there are.
+pub(crate) fn chunk_count(bytes: &[u8], size: usize) -> usize
+    requires size { (1 ≤ size) × (size < 2 ^ 32) }
+    ensures value { result ≡ chunk_count size bytes.now }
+    ensures within { (number : ℕ) → number < result → number * size < length bytes.now }
+    ensures few { result ≤ length bytes.now }
+{
+    (bytes.len() + (size - 1)) / size
+}
+
+/// The bytes of the chunk with this number.
+pub(crate) fn chunk_at(bytes: &[u8], size: usize, number: usize) -> &[u8]
+    requires size { (1 ≤ size) × (size < 2 ^ 32) }
+    requires begins { number * size < length bytes.now }
+    ensures { result.now ≡ chunk_at size bytes.now number }
+{
+    let start = number * size;
+    let end = bytes.len().min(start + size);
+    &bytes[start..end]
+}
+
 /// The chunk with this number, copied once into memory of its own.
 fn chunk(alloc: Global, bytes: &[u8], size: usize, number: usize) -> Result<Item, NoMemory>
     requires size { (1 ≤ size) × (size < 2 ^ 32) }
     requires begins { number * size < length bytes.now }
     ensures { IfOk result (λ item. item ≡ record { id = number; bytes = chunk_at size bytes.now number }) }
 {
-    let start = number * size;
-    let end = bytes.len().min(start + size);
     Ok(Item {
         id: number as u64,
-        bytes: Vec::from_slice(alloc, &bytes[start..end])?,
+        bytes: Vec::from_slice(alloc, chunk_at(bytes, size, number))?,
     })
 }
 
@@ -68,7 +87,7 @@ pub fn cut(alloc: Global, bytes: &[u8], size: u32) -> Result<Vec<Item>, NoMemory
     ensures few { IfOk result (λ cut. length cut.items ≤ length bytes.now) }
 {
     let size = size as usize;
-    let count = (bytes.len() + (size - 1)) / size;
+    let count = chunk_count(bytes, size);
     let mut items = Vec::with_capacity(alloc, count)?;
     for number in 0..count {
         items.push(chunk(alloc, bytes, size, number)?)?;

@@ -1,10 +1,13 @@
 //! Digests of chunks.
 
-ghost use Rattle.std.specs.Prelude.{◌≡◌};
+ghost use Rattle.std.specs.Prelude.{◌≡◌, ◌≤◌, IfOk};
 ghost use Rattle.sha2.specs.Sha256.{sha256};
+ghost use Rattle.chunk_tasks.specs.Chunks.{digests_of};
 
-use crate::chunks::Item;
+use crate::chunks::{Item, chunk_at, chunk_count};
+use listed::NoMemory;
 use sha2::{Digest, Sha256};
+use std::alloc::Global;
 use std::marker::Model;
 
 /// The digest of a chunk, with the chunk's number. `digest_item` alone makes it.
@@ -47,4 +50,22 @@ pub fn digest_item(item: Item) -> Digested
         id: item.id(),
         digest: Sha256::digest(item.bytes()),
     }
+}
+
+/// The SHA-256 digest of each chunk of `size` bytes of some data, in order, without a copy of a byte. Takes time linear in the data.
+///
+/// # Errors
+///
+/// `NoMemory` where memory runs out.
+pub fn digest_chunks(alloc: Global, bytes: &[u8], size: u32) -> Result<Vec<[u8; 32]>, NoMemory>
+    requires { 1 ≤ size }
+    ensures { IfOk result (λ digests. digests.items ≡ digests_of size bytes.now) }
+{
+    let size = size as usize;
+    let count = chunk_count(bytes, size);
+    let mut digests = Vec::with_capacity(alloc, count)?;
+    for number in 0..count {
+        digests.push(Sha256::digest(chunk_at(bytes, size, number)))?;
+    }
+    Ok(digests)
 }

@@ -8,4 +8,4 @@ mod chunks;
 mod digests;
 
 pub use chunks::{Item, cut};
-pub use digests::{Digested, digest_item};
+pub use digests::{Digested, digest_chunks, digest_item};
