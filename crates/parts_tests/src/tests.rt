@@ -10,4 +10,5 @@ mod programmes;
 mod ratios;
 mod rows;
 mod scripted;
+mod steps;
 mod tableaux;
