@@ -1,5 +1,5 @@
 -- What is looked up of each lane.
-use Rattle.std.specs.Prelude.{ℕ, ◌+◌, ◌*◌, length, max, min, Bool, List, [], ◌∷◌, ◌++◌, nat_eq, slice_index_or, Some}
+use Rattle.std.specs.Prelude.{ℕ, ◌+◌, ◌*◌, length, max, min, Bool, List, [], ◌∷◌, ◌++◌, cond, sum_by, nat_eq, slice_index_or, Some}
 use Rattle.flow_routes.specs.declared.flow.Route.{Route}
 use Rattle.period_table.specs.declared.table.Piece.{Piece}
 use Rattle.actor_programs.specs.declared.places.Place.{Place}
@@ -44,3 +44,7 @@ lane_with t tasks chunks place = record {
   receiver = receiver_of t place.link;
   capacity = max 1 (min (2 * place.count) (length (all_tasks tasks chunks place.offset place.count)));
 }
+
+-- how many tasks some pieces move over a lane
+abbrev pub moved_in : ℕ → List Piece → ℕ
+moved_in lane pieces = sum_by (λ piece. cond (nat_eq piece.lane lane) piece.count 0) pieces

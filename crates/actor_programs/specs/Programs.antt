@@ -43,14 +43,21 @@ abbrev pub sends_of : List Route → ℕ → List Slot → List Slot → List Ru
 sends_of routes link before [] = []
 sends_of routes link before (slot ∷ slots) = map (run_of routes before) (filter (is_over routes link) slot.pieces) ++ sends_of routes link (slot ∷ before) slots
 
+-- what is computed of a route at its end, where so many lanes and tasks come before the route
+abbrev pub end_run : Route → ℕ → ℕ → Run
+end_run route lanes offset = record {
+  take = lane_before (length route.links) (lanes + length route.links);
+  lane = None;
+  hop = length route.links;
+  offset = offset;
+  count = route.count;
+}
+
 -- what is computed at a node in a period, route by route, where so many lanes and tasks come before
 abbrev pub computes_of : ℕ → ℕ → ℕ → List Route → List Run
 computes_of node lanes offset [] = []
 computes_of node lanes offset (route ∷ routes) =
-    cond (nat_eq route.end node)
-    (record { take = lane_before (length route.links) (lanes + length route.links); lane = None; hop = length route.links; offset = offset; count = route.count } ∷ [])
-    []
-    ++ computes_of node (lanes + length route.links) (offset + route.count) routes
+    cond (nat_eq route.end node) (end_run route lanes offset ∷ []) [] ++ computes_of node (lanes + length route.links) (offset + route.count) routes
 
 -- what an actor does in each period
 abbrev pub runs_of : Table → Actor → List Run

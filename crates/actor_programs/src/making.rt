@@ -121,8 +121,34 @@ fn laid(
     Ok(Wiring::new(nodes, lanes, programs))
 }
 
+/// The wiring of what the actors do in each period. The events are counted before any is laid out.
+fn counted(
+    alloc: Global,
+    timed: &Timed,
+    table: &Table,
+    chunks: u64,
+    places: &[Place],
+    runs: &[Listed<Run>],
+) -> Result<Wiring, WiringFault>
+    requires can { CanRun timed.now table.now chunks }
+    requires few { chunks ≤ 2 ^ 28 }
+    requires numbers { HasNumbers table.now }
+    requires places { places.now ≡ places_of 0 table.now.routes }
+    requires runs { runs.now ≡ map (runs_of table.now) (actors_of timed.now table.now) }
+    ensures wiring { IfOk result (λ wiring. wiring ≡ wiring_of timed.now table.now chunks) }
+    ensures short { IfOk result (λ _. events_in timed.now table.now chunks ≤ 4000000) }
+    ensures roomy { IfOk result (λ wiring. All IsRoomy wiring.lanes) }
+    ensures fault { IfErr result (λ fault. IsWiringFault timed.now table.now chunks fault) }
+{
+    let events = all_events(runs, table.tasks.max(1), chunks);
+    if events > MOST_EVENTS {
+        return Err(WiringFault::TooLong { events });
+    }
+    Ok(laid(alloc, timed, table, chunks, places, runs)?)
+}
+
 /// The lanes of a table, and the programs of its actors, for a run of so many chunks. The actors are numbered as `actors` lists
-/// them. The events are counted before any is laid out. A lane's capacity is in tasks.
+/// them. A lane's capacity is in tasks. No event is laid out before all are counted.
 pub fn wiring(
     alloc: Global,
     timed: &Timed,
@@ -142,16 +168,12 @@ pub fn wiring(
     is_known(table.depth);
     let places = places_of(alloc, table.routes.as_slice())?;
     let runs = patterns(alloc, timed, table, places.as_slice())?;
-    let events = all_events(runs.as_slice(), table.tasks.max(1), chunks);
-    if events > MOST_EVENTS {
-        return Err(WiringFault::TooLong { events });
-    }
-    Ok(laid(
+    counted(
         alloc,
         timed,
         table,
         chunks,
         places.as_slice(),
         runs.as_slice(),
-    )?)
+    )
 }
