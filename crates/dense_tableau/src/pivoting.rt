@@ -87,14 +87,7 @@ fn change_rows(cells: &mut [i128], pivot_row: &[i128], basics: &[u32], column: u
 }
 
 /// Changes the rows before the pivot's and those behind it as a pivot does, where none overflows.
-fn change_others(
-    cells: &mut [i128],
-    basics: &[u32],
-    width: usize,
-    row: u32,
-    column: u32,
-    rows: u32,
-)
+fn change_others(cells: &mut [i128], basics: &[u32], width: usize, row: u32, column: u32, rows: u32)
     requires basics { length basics.now ≡ rows }
     requires whole { length cells.old ≡ rows * width }
     requires row { row < rows }
@@ -110,13 +103,7 @@ fn change_others(
     let (pivot_row, behind) = rest.split_at_mut(width);
     let (basics_before, basics_from) = basics.split_at(row as usize);
     change_rows(before, pivot_row, basics_before, column, row);
-    change_rows(
-        behind,
-        pivot_row,
-        &basics_from[1..],
-        column,
-        rows - row - 1,
-    );
+    change_rows(behind, pivot_row, &basics_from[1..], column, rows - row - 1);
 }
 
 /// Pivots on a row and a column, or tells the first cell at which that overflows and leaves the tableau.

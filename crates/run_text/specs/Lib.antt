@@ -1,2 +1,2 @@
-pub mod Batches
+pub mod Counts
 pub mod Reports

@@ -3,6 +3,8 @@
 
 mod appending;
 mod batches;
+mod counting;
 mod report;
 
+pub use counting::node_counts;
 pub use report::{print_report, report_into, report_room};
