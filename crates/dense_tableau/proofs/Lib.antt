@@ -3,4 +3,5 @@ pub mod Entries
 pub mod Flat
 pub mod Parts
 pub mod Units
+pub mod Listed
 pub mod Written
