@@ -42,7 +42,7 @@ length-numbered make number (actor ∷ actors) = ap suc (length-numbered make (n
 
 -- ---- each actor is there once
 
-numbers_differ : (first n : ℕ) → AllPairs (λ x y. x < y) (range_with_len first n)
+pub numbers_differ : (first n : ℕ) → AllPairs (λ x y. x < y) (range_with_len first n)
 numbers_differ first n = λ i j d less l. omega (arith, less, at first n i d (omega (arith, less, l, length-numbers first n)), at first n j d (omega (arith, l, length-numbers first n)))
   where
     at : (first n i d : ℕ) → i < n → slice_index_or (range_with_len first n) i d ≡ first + i

@@ -16,3 +16,4 @@ pub mod Computed
 pub mod Carried
 pub mod Used
 mod Examples
+pub mod RouteLists

@@ -1,5 +1,5 @@
 -- What becomes of the tasks of a run: each goes its route lane by lane and is computed once.
-use Rattle.std.specs.Prelude.{◌≡◌, ℕ, ◌+◌, ◌<◌, ◌≤◌, ◌^◌, ◌==◌, List, [], length, cond, nat_eq, All, count_by, slice_get, Some}
+use Rattle.std.specs.Prelude.{◌≡◌, ℕ, ◌+◌, ◌*◌, ◌<◌, ◌≤◌, ◌^◌, ◌==◌, List, [], length, cond, nat_eq, All, count_by, slice_get, Some}
 use Rattle.std.specs.List.{flat_map}
 use Rattle.platform_file.specs.Ticks.{TimedView, IsTimed}
 use Rattle.schedule_model.specs.declared.schedule.Series.TheVariants.{Tasking}
@@ -14,7 +14,7 @@ use Rattle.step_core.specs.Wirings.{WiringView, program_of}
 use Rattle.step_core.specs.Tasks.{tasks_opened, tasks_closed, tasks_taken, tasks_done}
 use Rattle.actor_programs.specs.declared.actor.Actor.{Actor}
 use Rattle.actor_programs.specs.declared.actor.Actor.TheVariants.{Sender, Consumer}
-use Rattle.actor_programs.specs.Tasks.{end_at}
+use Rattle.actor_programs.specs.Tasks.{count_of, offset_of, end_at}
 use Rattle.actor_programs.specs.Programs.{actors_of, wiring_of}
 
 -- each lane that a piece names has a number of 32 bits
@@ -26,6 +26,11 @@ pub record CanRun (t : TimedView) (table : Table) (chunks : ℕ) : Type 0 where
   pub timed : IsTimed t
   pub fits : Fits t Tasking table
   pub some : table.tasks ≡ 0 → chunks ≡ 0
+
+-- the task exists, and its place in its batch is one of the route's
+abbrev pub IsOfRoute : Table → ℕ → ℕ → ℕ → Type 0
+IsOfRoute table chunks route task =
+    (batch : ℕ) × (i : ℕ) × (i < count_of table.routes route) × (task ≡ (batch * table.tasks + offset_of table.routes route) + i) × (task < chunks)
 
 -- who opens and closes a lane: the sender of its link
 abbrev pub opener_of : List Route → ℕ → Actor

@@ -1,9 +1,13 @@
 -- What is looked up of each lane.
-use Rattle.std.specs.Prelude.{ℕ, ◌+◌, Bool, List, [], ◌∷◌, ◌++◌, nat_eq, slice_index_or, Some}
+use Rattle.std.specs.Prelude.{ℕ, ◌+◌, ◌*◌, length, max, min, Bool, List, [], ◌∷◌, ◌++◌, cond, sum_by, nat_eq, slice_index_or, Some}
 use Rattle.flow_routes.specs.declared.flow.Route.{Route}
 use Rattle.period_table.specs.declared.table.Piece.{Piece}
 use Rattle.actor_programs.specs.declared.places.Place.{Place}
 use Rattle.actor_programs.specs.declared.run.Run.{Run}
+use Rattle.platform_file.specs.Ticks.{TimedView}
+use Rattle.schedule_model.specs.Operations.{sender_of, receiver_of}
+use Rattle.step_core.specs.declared.wiring.Lane.{Lane}
+use Rattle.actor_programs.specs.Tasks.{all_tasks}
 use Rattle.actor_programs.specs.Programs.{lane_before}
 
 -- the places of a route's lanes from a hop on
@@ -32,3 +36,15 @@ run_with places moved piece = record {
 -- the piece goes over the link
 abbrev pub goes_over : List Place → ℕ → Piece → Bool
 goes_over places link piece = nat_eq (place_at places piece.lane).link link
+
+-- the lane at a place
+abbrev pub lane_with : TimedView → ℕ → ℕ → Place → Lane
+lane_with t tasks chunks place = record {
+  sender = sender_of t place.link;
+  receiver = receiver_of t place.link;
+  capacity = max 1 (min (2 * place.count) (length (all_tasks tasks chunks place.offset place.count)));
+}
+
+-- how many tasks some pieces move over a lane
+abbrev pub moved_in : ℕ → List Piece → ℕ
+moved_in lane pieces = sum_by (λ piece. cond (nat_eq piece.lane lane) piece.count 0) pieces

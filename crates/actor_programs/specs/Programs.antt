@@ -43,25 +43,40 @@ abbrev pub sends_of : List Route → ℕ → List Slot → List Slot → List Ru
 sends_of routes link before [] = []
 sends_of routes link before (slot ∷ slots) = map (run_of routes before) (filter (is_over routes link) slot.pieces) ++ sends_of routes link (slot ∷ before) slots
 
+-- what is computed of a route at its end, where so many lanes and tasks come before the route
+abbrev pub end_run : Route → ℕ → ℕ → Run
+end_run route lanes offset = record {
+  take = lane_before (length route.links) (lanes + length route.links);
+  lane = None;
+  hop = length route.links;
+  offset = offset;
+  count = route.count;
+}
+
 -- what is computed at a node in a period, route by route, where so many lanes and tasks come before
 abbrev pub computes_of : ℕ → ℕ → ℕ → List Route → List Run
 computes_of node lanes offset [] = []
 computes_of node lanes offset (route ∷ routes) =
-    cond (nat_eq route.end node)
-    (record { take = lane_before (length route.links) (lanes + length route.links); lane = None; hop = length route.links; offset = offset; count = route.count } ∷ [])
-    []
-    ++ computes_of node (lanes + length route.links) (offset + route.count) routes
+    cond (nat_eq route.end node) (end_run route lanes offset ∷ []) [] ++ computes_of node (lanes + length route.links) (offset + route.count) routes
 
 -- what an actor does in each period
 abbrev pub runs_of : Table → Actor → List Run
 runs_of table (Sender link) = sends_of table.routes link [] table.slots
 runs_of table (Consumer node) = computes_of node 0 0 table.routes
 
+-- a lane goes over the link
+abbrev pub is_used : List Route → ℕ → Bool
+is_used routes link = list_any (λ lane. nat_eq lane.link link) (lanes_of routes)
+
+-- a route ends at the node
+abbrev pub is_end : List Route → ℕ → Bool
+is_end routes node = list_any (λ route. nat_eq route.end node) routes
+
 -- a sender for each link with a lane, then a consumer for each node at which a route ends
 abbrev pub actors_of : TimedView → Table → List Actor
 actors_of t table =
-    map Sender (filter (λ link. list_any (λ lane. nat_eq lane.link link) (lanes_of table.routes)) (range_with_len 0 (length t.platform.links)))
-    ++ map Consumer (filter (λ node. list_any (λ route. nat_eq route.end node) table.routes) (range_with_len 0 (length t.platform.nodes)))
+    map Sender (filter (is_used table.routes) (range_with_len 0 (length t.platform.links)))
+    ++ map Consumer (filter (is_end table.routes) (range_with_len 0 (length t.platform.nodes)))
 
 -- how many periods a run has
 abbrev pub run_periods : Table → ℕ → ℕ

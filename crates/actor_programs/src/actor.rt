@@ -2,9 +2,8 @@
 
 ghost use Rattle.std.specs.Prelude.{◌≡◌, ◌++◌, IfOk, OnOk, [], ◌∷◌, map, filter, length, cond, nat_eq};
 ghost use Rattle.std.specs.List.{list_any, range_with_len};
-ghost use Rattle.period_table.specs.Lanes.{lanes_of};
 ghost use Rattle.actor_programs.specs.declared.actor.Actor.TheVariants.{Sender, Consumer};
-ghost use Rattle.actor_programs.specs.Programs.{actors_of};
+ghost use Rattle.actor_programs.specs.Programs.{is_used, is_end, actors_of};
 
 use flow_routes::Route;
 use listed::{Listed, NoMemory};
@@ -41,7 +40,7 @@ fn is_on(links: &[u32], link: u32) -> bool
 
 /// Whether a lane goes over the link.
 fn is_used(routes: &[Route], link: u32) -> bool
-    ensures { result ≡ list_any (λ lane. nat_eq lane.link link) (lanes_of routes.now) }
+    ensures { result ≡ is_used routes.now link }
 {
     for route in routes {
         if is_on(route.links.as_slice(), link) {
@@ -53,7 +52,7 @@ fn is_used(routes: &[Route], link: u32) -> bool
 
 /// Whether a route ends at the node.
 fn is_end(routes: &[Route], node: u32) -> bool
-    ensures { result ≡ list_any (λ route. nat_eq route.end node) routes.now }
+    ensures { result ≡ is_end routes.now node }
 {
     for route in routes {
         if route.end == node {
@@ -65,7 +64,7 @@ fn is_end(routes: &[Route], node: u32) -> bool
 
 /// Appends the sender of a link, where a lane goes over it.
 fn push_sender(out: &mut Listed<Actor>, routes: &[Route], link: u32) -> Result<(), NoMemory>
-    ensures ok { OnOk result (out.new ≡ out.old ++ cond (list_any (λ lane. nat_eq lane.link link) (lanes_of routes.now)) (Sender link ∷ []) []) }
+    ensures ok { OnOk result (out.new ≡ out.old ++ cond (is_used routes.now link) (Sender link ∷ []) []) }
 {
     if !is_used(routes, link) {
         return Ok(());
@@ -75,7 +74,7 @@ fn push_sender(out: &mut Listed<Actor>, routes: &[Route], link: u32) -> Result<(
 
 /// Appends the consumer at a node, where a route ends there.
 fn push_consumer(out: &mut Listed<Actor>, routes: &[Route], node: u32) -> Result<(), NoMemory>
-    ensures ok { OnOk result (out.new ≡ out.old ++ cond (list_any (λ route. nat_eq route.end node) routes.now) (Consumer node ∷ []) []) }
+    ensures ok { OnOk result (out.new ≡ out.old ++ cond (is_end routes.now node) (Consumer node ∷ []) []) }
 {
     if !is_end(routes, node) {
         return Ok(());
@@ -85,7 +84,7 @@ fn push_consumer(out: &mut Listed<Actor>, routes: &[Route], node: u32) -> Result
 
 /// Appends the senders of those of the first links over which a lane goes.
 fn push_senders(out: &mut Listed<Actor>, routes: &[Route], links: u32) -> Result<(), NoMemory>
-    ensures ok { OnOk result (out.new ≡ out.old ++ map Sender (filter (λ link. list_any (λ lane. nat_eq lane.link link) (lanes_of routes.now)) (range_with_len 0 links))) }
+    ensures ok { OnOk result (out.new ≡ out.old ++ map Sender (filter (is_used routes.now) (range_with_len 0 links))) }
 {
     for link in 0..links {
         push_sender(out, routes, link)?;
@@ -95,7 +94,7 @@ fn push_senders(out: &mut Listed<Actor>, routes: &[Route], links: u32) -> Result
 
 /// Appends the consumers at those of the first nodes at which a route ends.
 fn push_consumers(out: &mut Listed<Actor>, routes: &[Route], nodes: u32) -> Result<(), NoMemory>
-    ensures ok { OnOk result (out.new ≡ out.old ++ map Consumer (filter (λ node. list_any (λ route. nat_eq route.end node) routes.now) (range_with_len 0 nodes))) }
+    ensures ok { OnOk result (out.new ≡ out.old ++ map Consumer (filter (is_end routes.now) (range_with_len 0 nodes))) }
 {
     for node in 0..nodes {
         push_consumer(out, routes, node)?;

@@ -3,7 +3,7 @@
 ghost use Rattle.std.specs.Prelude.{◌≡◌, ℕ, ◌+◌, ◌^◌, ◌<◌, ◌≤◌, [], ◌∷◌, ◌++◌, OnOk, IfOk, None, length, cond, nat_eq, sum_by};
 ghost use Rattle.period_table.specs.Lanes.{lanes_of};
 ghost use Rattle.period_table.specs.Tables.{longest};
-ghost use Rattle.actor_programs.specs.Programs.{lane_before, computes_of};
+ghost use Rattle.actor_programs.specs.Programs.{lane_before, end_run, computes_of};
 
 use crate::run::Run;
 use flow_routes::Route;
@@ -34,8 +34,7 @@ fn push_route(
 ) -> Result<(), NoMemory>
     requires few { lanes + length route.now.links ≤ 2 ^ 32 }
     requires short { length route.now.links < 2 ^ 32 }
-    ensures ok { OnOk result (out.new ≡ out.old ++ cond (nat_eq route.now.end node)
-        (record { take = lane_before (length route.now.links) (lanes + length route.now.links); lane = None; hop = length route.now.links; offset = offset; count = route.now.count } ∷ []) []) }
+    ensures ok { OnOk result (out.new ≡ out.old ++ cond (nat_eq route.now.end node) (end_run route.now lanes offset ∷ []) []) }
 {
     if route.end != node {
         return Ok(());

@@ -7,7 +7,7 @@ ghost use Rattle.schedule_model.specs.Operations.{sender_of, receiver_of};
 ghost use Rattle.period_table.specs.Lanes.{lanes_of};
 ghost use Rattle.period_table.specs.Tables.{Fits};
 ghost use Rattle.actor_programs.specs.Tasks.{all_tasks};
-ghost use Rattle.actor_programs.specs.Places.{places_of};
+ghost use Rattle.actor_programs.specs.Places.{places_of, lane_with};
 ghost use Rattle.actor_programs.specs.Programs.{lane_of};
 
 use crate::measuring::all_tasks;
@@ -25,7 +25,7 @@ fn lane_of(timed: &Timed, tasks: u128, chunks: u64, place: Place) -> Lane
     requires bounded { tasks ≤ 2 ^ 107 }
     requires few { chunks ≤ 2 ^ 28 }
     requires within { place.offset + place.count ≤ tasks }
-    ensures { result ≡ record { sender = sender_of timed.now place.link; receiver = receiver_of timed.now place.link; capacity = max 1 (min (2 * place.count) (length (all_tasks tasks chunks place.offset place.count))) } }
+    ensures { result ≡ lane_with timed.now tasks chunks place }
 {
     timed.known();
     let link = &timed.platform().links()[place.link as usize];

@@ -1,6 +1,7 @@
 //! What holds of every wiring of a table that fits.
 
-ghost use Rattle.std.specs.Prelude.{◌≡◌, ℕ, ◌-◌, ◌*◌, ◌<◌, ◌≤◌, List, length, count_by, min};
+ghost use Rattle.std.specs.Prelude.{◌≡◌, ℕ, ◌-◌, ◌*◌, ◌<◌, ◌≤◌, ◌↔◌, List, length, count_by, min};
+ghost use Rattle.std.specs.List.{AllPairs, Contains};
 ghost use Rattle.platform_file.specs.Ticks.{TimedView, IsTimed};
 ghost use Rattle.schedule_model.specs.declared.schedule.Series.TheVariants.{Tasking};
 ghost use Rattle.period_table.specs.declared.table.Table.{Table};
@@ -12,7 +13,7 @@ ghost use Rattle.step_core.specs.Paced.{IsPaced};
 ghost use Rattle.step_core.specs.Tasks.{is_done};
 ghost use Rattle.actor_programs.specs.Tasks.{route_tasks, route_of};
 ghost use Rattle.actor_programs.specs.Programs.{wiring_of, periods_of};
-ghost use Rattle.actor_programs.specs.Carried.{HasNumbers, CanRun, IsCarried, UsesAtOnce, ComputesAll};
+ghost use Rattle.actor_programs.specs.Carried.{HasNumbers, CanRun, IsOfRoute, IsCarried, UsesAtOnce, ComputesAll};
 ghost use Rattle.actor_programs.specs.Counted.{HasRun};
 
 /// The wiring of a table that fits is well-formed, and paced by the periods of its events.
@@ -23,13 +24,22 @@ pub fn wirings_hold()
         → IsPaced (wiring_of t table chunks) (periods_of t table chunks) }
 {}
 
+/// The list of a route has the tasks of the route's places in each batch, those that exist, ascending.
+pub fn routes_hold()
+    ensures listed { (t : TimedView) (table : Table) (chunks route task : ℕ) → CanRun t table chunks
+        → (Contains (route_tasks table chunks route) task ↔ IsOfRoute table chunks route task) }
+    ensures ascending { (t : TimedView) (table : Table) (chunks route : ℕ) → CanRun t table chunks
+        → AllPairs (λ a b. a < b) (route_tasks table chunks route) }
+{}
+
 /// On each lane the tasks of its route are opened, closed and taken, in order. What is taken is sent on or computed at once, and
 /// each chunk's task is computed once.
 pub fn tasks_hold()
     ensures carried { (t : TimedView) (table : Table) (chunks lane : ℕ) → CanRun t table chunks → lane < length (lanes_of table.routes)
         → IsCarried t table chunks lane (route_tasks table chunks (route_of table.routes lane)) }
     ensures used { (t : TimedView) (table : Table) (chunks actor : ℕ) → UsesAtOnce (program_of (wiring_of t table chunks) actor) }
-    ensures computed { (t : TimedView) (table : Table) (chunks : ℕ) → CanRun t table chunks → ComputesAll (wiring_of t table chunks) chunks }
+    ensures computed { (t : TimedView) (table : Table) (chunks : ℕ) → CanRun t table chunks
+        → ComputesAll (wiring_of t table chunks) chunks }
 {}
 
 /// A legal history that has every event of the first periods has computed the tasks of all of them but the first `depth`, or all

@@ -14,6 +14,6 @@ mod run;
 mod sending;
 
 pub use actor::{Actor, actors};
-pub use laws::{counts_hold, tasks_hold, wirings_hold};
+pub use laws::{counts_hold, routes_hold, tasks_hold, wirings_hold};
 pub use making::{WiringFault, wiring};
 pub use run::Run;

@@ -1,17 +1,19 @@
 //! The wiring of a table.
 
-ghost use Rattle.std.specs.Prelude.{◌≡◌, ◌+◌, ◌-◌, ◌^◌, ◌<◌, ◌≤◌, IfOk, IfErr, All, cond, nat_eq, max};
+ghost use Rattle.std.specs.Prelude.{◌≡◌, ◌+◌, ◌-◌, ◌^◌, ◌<◌, ◌≤◌, IfOk, IfErr, All, map, cond, nat_eq, max};
 ghost use Rattle.schedule_model.specs.declared.schedule.Series.TheVariants.{Tasking};
 ghost use Rattle.period_table.specs.Tables.{Fits};
 ghost use Rattle.actor_programs.specs.Tasks.{batches_of};
-ghost use Rattle.actor_programs.specs.Programs.{wiring_of};
-ghost use Rattle.actor_programs.specs.Carried.{IsRoomy};
+ghost use Rattle.actor_programs.specs.Places.{places_of};
+ghost use Rattle.actor_programs.specs.Programs.{runs_of, actors_of, wiring_of};
+ghost use Rattle.actor_programs.specs.Carried.{HasNumbers, CanRun, IsRoomy};
 ghost use Rattle.actor_programs.specs.Faults.{IsWiringFault, events_in};
 
 use crate::gathering::{all_events, patterns, programs};
 use crate::lanes::lanes;
-use crate::places::places_of;
-use listed::NoMemory;
+use crate::places::{Place, places_of};
+use crate::run::Run;
+use listed::{Listed, NoMemory};
 use period_table::{Piece, Slot, Table};
 use platform_file::Timed;
 use std::alloc::Global;
@@ -93,7 +95,60 @@ fn periods_of(batches: u64, depth: u32, chunks: u64) -> u64
     batches + u64::from(depth)
 }
 
-/// The lanes of a table, and the programs of its actors, for so many chunks. The events are counted before any is laid out.
+/// Lays out the lanes and the programs of what the actors do in each period.
+fn laid(
+    alloc: Global,
+    timed: &Timed,
+    table: &Table,
+    chunks: u64,
+    places: &[Place],
+    runs: &[Listed<Run>],
+) -> Result<Wiring, NoMemory>
+    requires can { CanRun timed.now table.now chunks }
+    requires few { chunks ≤ 2 ^ 28 }
+    requires numbers { HasNumbers table.now }
+    requires places { places.now ≡ places_of 0 table.now.routes }
+    requires runs { runs.now ≡ map (runs_of table.now) (actors_of timed.now table.now) }
+    ensures { IfOk result (λ wiring. wiring ≡ wiring_of timed.now table.now chunks) }
+{
+    timed.known();
+    let tasks = table.tasks.max(1);
+    let batches = batches_of(tasks, chunks);
+    let periods = periods_of(batches, table.depth, chunks);
+    let programs = programs(alloc, runs, tasks, chunks, batches, periods)?;
+    let lanes = lanes(alloc, timed, table, chunks, places)?;
+    let nodes = timed.platform().nodes().len() as u32;
+    Ok(Wiring::new(nodes, lanes, programs))
+}
+
+/// The wiring of what the actors do in each period. The events are counted before any is laid out.
+fn counted(
+    alloc: Global,
+    timed: &Timed,
+    table: &Table,
+    chunks: u64,
+    places: &[Place],
+    runs: &[Listed<Run>],
+) -> Result<Wiring, WiringFault>
+    requires can { CanRun timed.now table.now chunks }
+    requires few { chunks ≤ 2 ^ 28 }
+    requires numbers { HasNumbers table.now }
+    requires places { places.now ≡ places_of 0 table.now.routes }
+    requires runs { runs.now ≡ map (runs_of table.now) (actors_of timed.now table.now) }
+    ensures wiring { IfOk result (λ wiring. wiring ≡ wiring_of timed.now table.now chunks) }
+    ensures short { IfOk result (λ _. events_in timed.now table.now chunks ≤ 4000000) }
+    ensures roomy { IfOk result (λ wiring. All IsRoomy wiring.lanes) }
+    ensures fault { IfErr result (λ fault. IsWiringFault timed.now table.now chunks fault) }
+{
+    let events = all_events(runs, table.tasks.max(1), chunks);
+    if events > MOST_EVENTS {
+        return Err(WiringFault::TooLong { events });
+    }
+    Ok(laid(alloc, timed, table, chunks, places, runs)?)
+}
+
+/// The lanes of a table, and the programs of its actors, for a run of so many chunks. The actors are numbered as `actors` lists
+/// them. A lane's capacity is in tasks. No event is laid out before all are counted.
 pub fn wiring(
     alloc: Global,
     timed: &Timed,
@@ -111,17 +166,14 @@ pub fn wiring(
     timed.known();
     slots_known(table.slots.as_slice());
     is_known(table.depth);
-    let tasks = table.tasks.max(1);
     let places = places_of(alloc, table.routes.as_slice())?;
     let runs = patterns(alloc, timed, table, places.as_slice())?;
-    let events = all_events(runs.as_slice(), tasks, chunks);
-    if events > MOST_EVENTS {
-        return Err(WiringFault::TooLong { events });
-    }
-    let batches = batches_of(tasks, chunks);
-    let periods = periods_of(batches, table.depth, chunks);
-    let programs = programs(alloc, runs.as_slice(), tasks, chunks, batches, periods)?;
-    let lanes = lanes(alloc, timed, table, chunks, places.as_slice())?;
-    let nodes = timed.platform().nodes().len() as u32;
-    Ok(Wiring::new(nodes, lanes, programs))
+    counted(
+        alloc,
+        timed,
+        table,
+        chunks,
+        places.as_slice(),
+        runs.as_slice(),
+    )
 }

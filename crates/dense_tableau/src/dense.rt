@@ -14,13 +14,15 @@ use listed::NoMemory;
 use std::alloc::Global;
 use std::marker::Model;
 
-/// A tableau whose rows stand one after the other in one vector, 16 bytes a cell. A pivot takes no memory.
+/// A tableau whose rows stand one after the other in one vector, 16 bytes a cell. A pivot takes no memory: it notes the columns of its row
+/// in room that is there from the start.
 #[derive(Drop)]
 pub struct Dense {
     values: u32,
     constraints: u32,
     cells: Vec<i128>,
     basics: Vec<u32>,
+    columns: Vec<u32>,
 }
 
 impl Model for Dense {
@@ -28,9 +30,9 @@ impl Model for Dense {
 
     ghost Value = { FlatView };
 
-    ghost view = { λ a. record { values = a.values; constraints = a.constraints; cells = a.cells.items; basics = a.basics.items } };
+    ghost view = { λ a. record { values = a.values; constraints = a.constraints; cells = a.cells.items; basics = a.basics.items; columns = a.columns.items } };
 
-    ghost invariant = { λ a. IsFlat (record { values = a.values; constraints = a.constraints; cells = a.cells.items; basics = a.basics.items }) };
+    ghost invariant = { λ a. IsFlat (record { values = a.values; constraints = a.constraints; cells = a.cells.items; basics = a.basics.items; columns = a.columns.items }) };
 }
 
 impl Dense {
@@ -55,11 +57,13 @@ impl Tableau for Dense {
         let mut cells = vec![in alloc; 0; (rows as usize + 1) * width]?;
         write_start(cells.as_mut_slice(), lp, width);
         let basics = start_basics(alloc, lp)?;
+        let room = vec![in alloc; 0; width]?;
         Ok(Dense {
             values: columns,
             constraints: rows,
             cells,
             basics,
+            columns: room,
         })
     }
 
@@ -98,6 +102,8 @@ impl Tableau for Dense {
         let width = self.columns() as usize;
         if let Some((row, column)) = pivot_cells(
             self.cells.as_mut_slice(),
+            self.basics.as_slice(),
+            self.columns.as_mut_slice(),
             width,
             row,
             column,

@@ -1,7 +1,7 @@
 //! One row of a tableau in a pivot.
 
-ghost use Rattle.std.specs.Prelude.{◌≡◌, ◌≢◌, ℕ, ℤ, pos, ◌*◌, ◌^◌, ◌<◌, ◌≤◌, ◌-ℤ◌, ◌*ℤ◌, ◌<ℤ◌, nat_abs, int_div, true, false, cond, nat_eq, length, IsSome, None, is_none};
-ghost use Rattle.dense_tableau.specs.Flat.{entry};
+ghost use Rattle.std.specs.Prelude.{◌≡◌, ◌≢◌, ℕ, ℤ, pos, ◌*◌, ◌^◌, ◌<◌, ◌≤◌, ◌-ℤ◌, ◌*ℤ◌, ◌<ℤ◌, nat_abs, int_div, true, false, cond, nat_eq, length, take, IsSome, None, is_none};
+ghost use Rattle.dense_tableau.specs.Flat.{entry, AreColumns};
 ghost use Rattle.linear_program.specs.Pivots.{first_below, row_divisor, row_overflow, changed_row};
 ghost use Rattle.linear_program.specs.Sizes.{fitting_combination};
 ghost use Rattle.ratio_core.specs.Fraction.{gcd_of};
@@ -151,8 +151,26 @@ fn combine_at(row: &mut [i128], pivot_row: &[i128], by: &Multipliers, j: usize)
     }
 }
 
-/// Makes a row its combination with the pivot's row, which is 0 in the pivot's column.
-fn combine(row: &mut [i128], pivot_row: &[i128], by: &Multipliers, column: u32)
+/// Makes a cell its combination with the one below it, and 0 in the pivot's column.
+fn combine_column(row: &mut [i128], pivot_row: &[i128], by: &Multipliers, column: u32, j: usize)
+    requires same { length row.old ≡ length pivot_row.now }
+    requires within { j < length row.old }
+    requires fits { j ≢ column → IsSome (fitting_combination by.now.own (entry row.old j) by.now.pivot (entry pivot_row.now j)) }
+    ensures length { length row.new ≡ length row.old }
+    ensures cell { j ≢ column → entry row.new j ≡ by.now.own *ℤ entry row.old j -ℤ by.now.pivot *ℤ entry pivot_row.now j }
+    ensures zero { j ≡ column → entry row.new j ≡ pos 0 }
+    ensures small { nat_abs (entry row.new j) < 2 ^ 127 }
+    ensures beside { (k : ℕ) → k ≢ j → entry row.new k ≡ entry row.old k }
+{
+    if j == column as usize {
+        row[j] = 0;
+    } else {
+        combine_at(row, pivot_row, by, j);
+    }
+}
+
+/// Makes a row its combination with the pivot's row, cell by cell.
+fn combine_all(row: &mut [i128], pivot_row: &[i128], by: &Multipliers, column: u32)
     requires same { length row.old ≡ length pivot_row.now }
     requires fits { (j : ℕ) → j < length row.old → j ≢ column
         → IsSome (fitting_combination by.now.own (entry row.old j) by.now.pivot (entry pivot_row.now j)) }
@@ -162,12 +180,69 @@ fn combine(row: &mut [i128], pivot_row: &[i128], by: &Multipliers, column: u32)
     ensures small { (j : ℕ) → j < length row.old → nat_abs (entry row.new j) < 2 ^ 127 }
 {
     for j in 0..row.len() {
-        if j == column as usize {
-            row[j] = 0;
-        } else {
-            combine_at(row, pivot_row, by, j);
+        combine_column(row, pivot_row, by, column, j);
+    }
+}
+
+/// The same for a row whose own factor is 1: it stays in each column that isn't listed, where the pivot's row is 0.
+fn combine_listed(
+    row: &mut [i128],
+    pivot_row: &[i128],
+    columns: &[u32],
+    by: &Multipliers,
+    column: u32,
+)
+    requires same { length row.old ≡ length pivot_row.now }
+    requires fits { (j : ℕ) → j < length row.old → j ≢ column
+        → IsSome (fitting_combination by.now.own (entry row.old j) by.now.pivot (entry pivot_row.now j)) }
+    requires own { by.now.own ≡ pos 1 }
+    requires columns { AreColumns pivot_row.now columns.now }
+    requires some { entry pivot_row.now column ≢ pos 0 }
+    ensures length { length row.new ≡ length row.old }
+    ensures cells { (j : ℕ) → j < length row.old → j ≢ column → entry row.new j ≡ by.now.own *ℤ entry row.old j -ℤ by.now.pivot *ℤ entry pivot_row.now j }
+    ensures zero { column < length row.old → entry row.new column ≡ pos 0 }
+    ensures small { (j : ℕ) → j < length row.old → nat_abs (entry row.new j) < 2 ^ 127 }
+{
+    for k in 0..columns.len() {
+        combine_column(row, pivot_row, by, column, columns[k] as usize);
+    }
+}
+
+/// Makes a row its combination with the pivot's row, which is 0 in the pivot's column.
+fn combine(row: &mut [i128], pivot_row: &[i128], columns: &[u32], by: &Multipliers, column: u32)
+    requires same { length row.old ≡ length pivot_row.now }
+    requires fits { (j : ℕ) → j < length row.old → j ≢ column
+        → IsSome (fitting_combination by.now.own (entry row.old j) by.now.pivot (entry pivot_row.now j)) }
+    requires columns { AreColumns pivot_row.now columns.now }
+    requires some { entry pivot_row.now column ≢ pos 0 }
+    ensures length { length row.new ≡ length row.old }
+    ensures cells { (j : ℕ) → j < length row.old → j ≢ column → entry row.new j ≡ by.now.own *ℤ entry row.old j -ℤ by.now.pivot *ℤ entry pivot_row.now j }
+    ensures zero { column < length row.old → entry row.new column ≡ pos 0 }
+    ensures small { (j : ℕ) → j < length row.old → nat_abs (entry row.new j) < 2 ^ 127 }
+{
+    if by.own == 1 {
+        combine_listed(row, pivot_row, columns, by, column);
+    } else {
+        combine_all(row, pivot_row, by, column);
+    }
+}
+
+/// Writes the columns in which a row isn't 0, and gives their number.
+pub fn nonzero_columns(row: &[i128], columns: &mut [u32]) -> usize
+    requires room { length row.now ≤ length columns.old }
+    requires narrow { length row.now < 2 ^ 32 }
+    ensures listed { AreColumns row.now (take result columns.new) }
+    ensures within { result ≤ length columns.old }
+    ensures room { length columns.new ≡ length columns.old }
+{
+    let mut count = 0;
+    for j in 0..row.len() {
+        if row[j] != 0 {
+            columns[count] = j as u32;
+            count += 1;
         }
     }
+    count
 }
 
 /// The greatest common divisor of what was found so far and a cell, without a division where the cell is 0, and with one where it is a
@@ -210,20 +285,36 @@ fn divide(row: &mut [i128], divisor: u128)
     }
 }
 
-/// Divides a row by the greatest common divisor of its cells.
-fn reduce(row: &mut [i128])
+/// Whether a row is 1 or -1 in a column, which leaves it no greater divisor.
+fn is_unit_at(row: &[i128], column: u32) -> bool
+    ensures { result ≡ true → row_divisor (length row.now) (entry row.now) ≡ 1 }
+{
+    match row.get(column as usize) {
+        Some(cell) => cell.unsigned_abs() == 1,
+        None => false,
+    }
+}
+
+/// Divides a row by the greatest common divisor of its cells, which is looked for at one column first, and along the row where it isn't
+/// 1 there.
+fn reduce(row: &mut [i128], likely: u32)
     requires { (j : ℕ) → j < length row.old → nat_abs (entry row.old j) < 2 ^ 127 }
     ensures length { length row.new ≡ length row.old }
     ensures reduced { (j : ℕ) → j < length row.old → entry row.new j ≡ int_div (entry row.old j) (pos (row_divisor (length row.old) (entry row.old))) }
 {
+    if is_unit_at(row, likely) {
+        return;
+    }
     let divisor = divisor_of(row);
     if divisor > 1 {
         divide(row, divisor);
     }
 }
 
-/// Changes a row as a pivot does, where it doesn't overflow: a row that is 0 in the pivot's column stays.
-pub fn change_row(row: &mut [i128], pivot_row: &[i128], column: u32)
+/// Changes a row as a pivot does, where it doesn't overflow: a row that is 0 in the pivot's column stays. In its basic column it mostly is
+/// 1, so that there is nothing to divide.
+pub fn change_row(row: &mut [i128], pivot_row: &[i128], columns: &[u32], column: u32, basic: u32)
+    requires columns { AreColumns pivot_row.now columns.now }
     requires same { length row.old ≡ length pivot_row.now }
     requires column { column < length row.old }
     requires positive { pos 0 <ℤ entry pivot_row.now column }
@@ -236,6 +327,6 @@ pub fn change_row(row: &mut [i128], pivot_row: &[i128], column: u32)
         return;
     }
     let by = multipliers_of(pivot_row[column as usize], cell);
-    combine(row, pivot_row, &by, column);
-    reduce(row);
+    combine(row, pivot_row, columns, &by, column);
+    reduce(row, basic);
 }

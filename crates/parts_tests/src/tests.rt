@@ -1,3 +1,4 @@
+mod chunks;
 mod comparing;
 mod devices;
 mod flows;

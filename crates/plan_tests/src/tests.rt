@@ -8,6 +8,7 @@ mod op_rows;
 mod plans;
 mod platforms;
 mod programmes;
+mod routings;
 mod schedules;
 mod table_rows;
 mod tables;

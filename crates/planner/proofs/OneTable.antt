@@ -1,5 +1,5 @@
 -- A solution has one table, and a platform one plan.
-use Rattle.std.proofs.Common.{◌≡◌, ℕ, zero, suc, ◌*◌, List, ◌++◌, length, All, sum_by, Option, Some, Result, Ok, refl, sym, ap, ap₂, ◌∙◌, subst, subst₂}
+use Rattle.std.proofs.Common.{◌≡◌, ℕ, zero, suc, ◌*◌, List, ◌++◌, length, Option, Some, Result, Ok, sym, ap, ap₂, ◌∙◌, subst, subst₂}
 use Rattle.ratio_core.specs.Fraction.{Fraction}
 use Rattle.platform_file.specs.Ticks.{TimedView}
 use Rattle.schedule_model.specs.declared.schedule.Series.{Series}
@@ -48,7 +48,7 @@ module _ (t : TimedView) (series : Series) (values : List Fraction) where
       are.lasting also_are.lasting are.whole (also_are.whole ∙ ap (λ (s : Scale). s.ticks) (sym same_scale)) first
       (subst₂ (λ (s : Scale) (r : List Route). AreFirstParts t s.ticks r others) (sym same_scale) (sym same_routes) also)
 
-  pub table_is_one : (table other : Table) → IsTableOf t series values table → IsTableOf t series values other → table ≡ other
+  table_is_one : (table other : Table) → IsTableOf t series values table → IsTableOf t series values other → table ≡ other
   table_is_one table other made also =
       let same_scale : made.scale ≡ also.scale = scale_same _ made.scale also.scale made.routed.scaled also.routed.scaled in
       let same_routes : made.routes ≡ also.routes = routed_one made.scale also.scale made.routes also.routes made.routed also.routed same_scale in

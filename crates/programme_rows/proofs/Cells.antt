@@ -1,5 +1,5 @@
 -- The cells of a row by their columns.
-use Rattle.std.proofs.Common.{◌≡◌, ◌≢◌, ℕ, zero, suc, ◌+◌, ◌<◌, ◌^◌, Bool, true, false, not, cond, nat_eq, nat_lt, nat_abs, List, [], ◌∷◌, ◌++◌, length, map, All, ℤ, pos, negsuc, refl, sym, ap, ◌∙◌, subst, arith, inl, inr, add-one}
+use Rattle.std.proofs.Common.{◌≡◌, ◌≢◌, ℕ, zero, suc, ◌+◌, ◌<◌, ◌^◌, Bool, true, false, not, cond, nat_eq, nat_lt, nat_abs, List, [], ◌∷◌, ◌++◌, length, map, All, ℤ, pos, negsuc, refl, sym, ap, ◌∙◌, arith, inl, inr}
 use Rattle.std.specs.List.Sorted.{IsStrictlyIncreasing}
 use Rattle.std.proofs.lemmas.Bool.{cases_eq, cases_lt, eq-eqb, ne_eqb, lt-ltb, le-ltb}
 use Rattle.std.proofs.lemmas.List.{append-nil, length-append, map_push, get_or_append_left, get_or-append-add}
@@ -98,23 +98,3 @@ cell_more n z b old some small cells = grown b some
       small = All-push (λ c. nat_abs c.1 < 2 ^ 127) old (n, z) cells.small small;
     }
     grown false some = rw append-nil (record { exist = further; ascend = cells.ascend; no_zero = cells.no_zero; small = cells.small })
-
--- the cells of a function with one more, where it isn't 0
-pub cells_grow : (f : ℕ → ℤ) (n : ℕ) (b : Bool) (old new : List (ℕ × ℤ)) → filled f n ≡ b → old ≡ cells_of f n → AreCells n old → nat_abs (f n) < 2 ^ 127 →
-    new ≡ old ++ cond b ((n, f n) ∷ []) [] → (new ≡ cells_of f (n + 1)) × AreCells (n + 1) new
-cells_grow f n b old new e before cells small more = (
-  rw (add-one, e) (more ∙ ap (λ xs. xs ++ cond b ((n, f n) ∷ []) []) before),
-  subst (λ xs. AreCells (n + 1) xs) (sym more) (cell_more n (f n) b old (not_zero b e) small cells),
-)
-  where
-    not_zero : (b : Bool) → filled f n ≡ b → b ≡ true → f n ≢ pos 0
-    not_zero b e is z = let bad : false ≡ true = rw z at (e ∙ is) in cc
-
--- a row begins with no cell
-pub no_cells : AreCells 0 []
-no_cells = record {
-  exist = All-nil (λ c. c.0 < 0);
-  ascend = λ k l. absurd (omega (arith, l));
-  no_zero = All-nil (λ (c : ℕ × ℤ). c.1 ≢ pos 0);
-  small = All-nil (λ (c : ℕ × ℤ). nat_abs c.1 < 2 ^ 127);
-}

@@ -52,19 +52,6 @@ each_few passes f (suc n) =
     few : (a b n : ℕ) {c : ℕ} → c ≡ a + b → a ≤ n → b ≤ 1 → c ≤ suc n
     few a b n e h k = omega arith
 
--- as many values of one function as of another at the numbers that pass
-pub as_many : {A B : Type 0} (passes : ℕ → Bool) (f : ℕ → A) (g : ℕ → B) (n : ℕ) → length (each_where passes f n) ≡ length (each_where passes g n)
-as_many passes f g zero = refl
-as_many passes f g (suc n) =
-    joined _ _ _ _ _ _ (length-append (each_where passes f n) (cond (passes n) (f n ∷ []) [])) (length-append (each_where passes g n) (cond (passes n) (g n ∷ []) [])) (as_many passes f g n) (one (passes n))
-  where
-    one : (b : Bool) → length (cond b (f n ∷ []) []) ≡ length (cond b (g n ∷ []) [])
-    one true = refl
-    one false = refl
-
-    joined : (a b c d x y : ℕ) → x ≡ a + b → y ≡ c + d → a ≡ c → b ≡ d → x ≡ y
-    joined a b c d x y e f g h = omega arith
-
 -- the sum of a function over a list
 abbrev pub sum_over : {A : Type 0} → (A → ℤ) → List A → ℤ
 sum_over f [] = pos 0

@@ -1,7 +1,8 @@
 -- Totals of whole numbers, beside the sums of signed ones.
-use Rattle.std.proofs.Common.{◌≡◌, ℕ, zero, suc, ◌+◌, ◌*◌, ◌<◌, ◌≤◌, ℤ, pos, ◌-ℤ◌, refl, subst, arith, inl, inr}
+use Rattle.std.proofs.Common.{◌≡◌, ℕ, zero, suc, ◌+◌, ◌*◌, ◌<◌, ◌≤◌, true, false, cond, nat_eq, ℤ, pos, ◌-ℤ◌, refl, subst, arith, inl, inr}
 use Rattle.std.proofs.lemmas.Int.{ints}
 use Rattle.std.proofs.lemmas.Bool.{cases_lt}
+use Rattle.std.proofs.lemmas.Bool.Decides.{nat_tests}
 use Rattle.linear_program.specs.Sums.{sum_below}
 use Rattle.programme_rows.specs.Listings.{total_below}
 
@@ -54,3 +55,25 @@ total_at_most (suc n) f g h =
     let before = total_at_most n f g (λ k l. h k (omega arith)) in
     let last = h n (omega arith) in
     omega (arith, before, last)
+
+-- a total of which one number alone may not be 0
+none_before : (n e c : ℕ) → n ≤ e → total_below n (λ k. cond (nat_eq k e) c 0) ≡ 0
+none_before zero e c l = refl
+none_before (suc n) e c l =
+    let other : nat_eq n e ≡ false = grind (arith, nat_tests) in
+    let before = none_before n e c (omega arith) in
+    rw other (omega (arith, before))
+
+pub one_total : (n e c : ℕ) → e < n → total_below n (λ k. cond (nat_eq k e) c 0) ≡ c
+one_total zero e c l = absurd (omega arith)
+one_total (suc n) e c l =
+    elim (cases_lt e n) [
+      | inl below ↦
+          let other : nat_eq n e ≡ false = grind (arith, nat_tests) in
+          let before = one_total n e c below in
+          rw other (omega (arith, before))
+      | inr from ↦
+          let same : nat_eq n e ≡ true = grind (arith, nat_tests) in
+          let before = none_before n e c (omega arith) in
+          rw same (omega (arith, before))
+    ]

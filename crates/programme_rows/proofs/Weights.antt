@@ -120,6 +120,13 @@ gain_by_columns {A = A} gain amount base columns rows =
     each : A → ℤ
     each column = gain column *ℤ pos (amount column)
 
+-- a number times so many counts
+pub regrouped : (z : ℤ) (n k : ℕ) → z *ℤ pos (n * k) ≡ pos k *ℤ (z *ℤ pos n)
+regrouped z n k = ap (λ m. z *ℤ m) (apart n k) ∙ sym (times_product z (pos n) (pos k)) ∙ *ℤ_comm (z *ℤ pos n) (pos k)
+  where
+    apart : (n k : ℕ) → pos (n * k) ≡ pos n *ℤ pos k
+    apart n k = refl
+
 -- counts in other ticks weigh so many times as much
 pub counts_scaled : {A : Type 0} (f : A → ℤ) (count : A → ℕ) (k : ℕ) (columns : List A) →
     sum_over (λ column. f column *ℤ pos (count column * k)) columns ≡ pos k *ℤ sum_over (λ column. f column *ℤ pos (count column)) columns
@@ -127,11 +134,5 @@ counts_scaled f count k [] = sym (*ℤ-zero (pos k))
 counts_scaled f count k (column ∷ columns) =
     both (regrouped (f column) (count column) k) (counts_scaled f count k columns) ∙ sym (times_sum (pos k) (f column *ℤ pos (count column)) (sum_over (λ c. f c *ℤ pos (count c)) columns))
   where
-    regrouped : (z : ℤ) (n k : ℕ) → z *ℤ pos (n * k) ≡ pos k *ℤ (z *ℤ pos n)
-    regrouped z n k = ap (λ m. z *ℤ m) (apart n k) ∙ sym (times_product z (pos n) (pos k)) ∙ *ℤ_comm (z *ℤ pos n) (pos k)
-      where
-        apart : (n k : ℕ) → pos (n * k) ≡ pos n *ℤ pos k
-        apart n k = refl
-
     both : {a b c d : ℤ} → a ≡ b → c ≡ d → a +ℤ c ≡ b +ℤ d
     both e k = rw (e, k) refl

@@ -1,13 +1,8 @@
 -- The order in which actors are tried.
-use Rattle.std.proofs.Common.{◌≡◌, ℕ, ◌+◌, ◌-◌, ◌<◌, ◌≤◌, ◌%◌, ◌∙◌, ap, arith, inl, inr}
+use Rattle.std.proofs.Common.{◌≡◌, ℕ, ◌+◌, ◌-◌, ◌<◌, ◌%◌, ◌∙◌, ap, arith, inl, inr}
 use Rattle.std.proofs.Math.Nat.{add-mod_left, mod-add-mod, mod-eq_of_lt}
-use Rattle.std.proofs.lemmas.Nat.{mod_below}
 use Rattle.std.proofs.lemmas.Bool.{cases_lt}
 use Rattle.rehearsal.specs.Choices.{tried_after}
-
--- an actor that is tried is one of the actors
-pub tried-within : (actors first others : ℕ) → first < actors → tried_after actors first others < actors
-tried-within actors first others within = mod_below (first + others) actors (omega arith)
 
 -- the first is tried once none has been
 pub tried-first : (actors first : ℕ) → first < actors → tried_after actors first 0 ≡ first
@@ -26,9 +21,9 @@ pub tried-all : (actors first actor : ℕ) → first < actors → actor < actors
     → (others : ℕ) × (others < actors) × (tried_after actors first others ≡ actor)
 tried-all actors first actor within below = elim (cases_lt actor first) [
   | inl less ↦
-        (let around : first + ((actors + actor) - first) ≡ actors + actor = omega arith in
-        ((actors + actor) - first, omega arith, ap (λ (x : ℕ). x % actors) around ∙ add-mod_left actors actor ∙ mod-eq_of_lt below))
+      (let around : first + ((actors + actor) - first) ≡ actors + actor = omega arith in
+      ((actors + actor) - first, omega arith, ap (λ (x : ℕ). x % actors) around ∙ add-mod_left actors actor ∙ mod-eq_of_lt below))
   | inr least ↦
-        (let ahead : first + (actor - first) ≡ actor = omega arith in
-        (actor - first, omega arith, ap (λ (x : ℕ). x % actors) ahead ∙ mod-eq_of_lt below))
-  ]
+      (let ahead : first + (actor - first) ≡ actor = omega arith in
+      (actor - first, omega arith, ap (λ (x : ℕ). x % actors) ahead ∙ mod-eq_of_lt below))
+]

@@ -1,8 +1,8 @@
 -- Which actor makes each event of a rehearsal, as its seed decides.
-use Rattle.std.specs.Prelude.{◌≡◌, ℕ, zero, suc, ◌+◌, ◌*◌, ◌/◌, ◌%◌, ◌^◌, ◌<◌, List, [], ◌∷◌, ◌++◌, length, take, slice_get, Some}
+use Rattle.std.specs.Prelude.{◌≡◌, ℕ, zero, suc, ◌+◌, ◌*◌, ◌/◌, ◌%◌, ◌^◌, ◌<◌, List, length, take, slice_get, Some}
 use Rattle.step_core.specs.declared.wiring.Event.{Event}
 use Rattle.step_core.specs.Wirings.{WiringView}
-use Rattle.step_core.specs.Histories.{next_of, IsLegal}
+use Rattle.step_core.specs.Histories.{IsEnabled}
 
 -- the number that follows another
 abbrev pub turned : ℕ → ℕ
@@ -21,10 +21,6 @@ drawn_by actors x = (x / 2 ^ 33) % actors
 abbrev pub tried_after : ℕ → ℕ → ℕ → ℕ
 tried_after actors first others = (first + others) % actors
 
--- the actor's next event is this one, and the history with it is legal
-abbrev pub IsEnabled : WiringView → List Event → ℕ → Event → Type 0
-IsEnabled w h actor e = (next_of w h actor ≡ Some e) × IsLegal w (h ++ e ∷ [])
-
 -- the event is enabled at an actor, and none is at those that are tried before it
 pub record IsFirstFrom (w : WiringView) (h : List Event) (first : ℕ) (e : Event) : Type 0 where
   pub others : ℕ
@@ -35,6 +31,6 @@ pub record IsFirstFrom (w : WiringView) (h : List Event) (first : ℕ) (e : Even
 abbrev pub IsChosen : WiringView → List Event → ℕ → Event → Type 0
 IsChosen w h x e = IsFirstFrom w h (drawn_by (length w.programs) x) e
 
--- each event of a history is the one chosen after those before it, by the number that the seed has become after one more turn than these
+-- the event at each place k, from 0, is chosen after the k events before it, by the number that the seed has become after k + 1 turns
 abbrev pub IsRehearsed : WiringView → ℕ → List Event → Type 0
 IsRehearsed w seed h = (k : ℕ) (e : Event) → slice_get h k ≡ Some e → IsChosen w (take k h) (number_after seed (k + 1)) e

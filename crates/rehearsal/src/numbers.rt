@@ -28,9 +28,5 @@ pub(crate) fn following(actors: u64, actor: u32) -> u32
     ensures { result ≡ (actor + 1) % actors }
 {
     let next = u64::from(actor) + 1;
-    if next == actors {
-        0
-    } else {
-        next as u32
-    }
+    if next == actors { 0 } else { next as u32 }
 }

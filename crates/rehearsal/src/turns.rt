@@ -19,7 +19,8 @@ fn choose(state: &mut State, wiring: &Wiring, first: u32) -> Option<Event>
     requires first { first < length wiring.now.programs }
     requires state { IsStateOf wiring.now state.old }
     ensures chosen { (h : List Event) → IsStateAfter wiring.now state.old h → IfSome result (λ e. IsFirstFrom wiring.now h first e) }
-    ensures made { (h : List Event) → IsStateAfter wiring.now state.old h → IfSome result (λ e. IsStateAfter wiring.now state.new (h ++ e ∷ [])) }
+    ensures made { (h : List Event) → IsStateAfter wiring.now state.old h
+        → IfSome result (λ e. IsStateAfter wiring.now state.new (h ++ e ∷ [])) }
     ensures stuck { (h : List Event) → IsStateAfter wiring.now state.old h → result ≡ None → CanGoOn wiring.now h → ⊥ }
 {
     wiring.known();
@@ -36,8 +37,7 @@ fn choose(state: &mut State, wiring: &Wiring, first: u32) -> Option<Event>
 
 /// Makes the event that a number chooses. Takes no memory.
 fn turn(state: &mut State, wiring: &Wiring, number: u64) -> Event
-    requires state { IsStateOf wiring.now state.old }
-    requires unfinished { (h : List Event) → IsStateAfter wiring.now state.old h → length h < sum_by length wiring.now.programs }
+    requires unfinished { (h : List Event) × IsStateAfter wiring.now state.old h × (length h < sum_by length wiring.now.programs) }
     requires paced { (periods : List (List ℕ)) × IsPaced wiring.now periods }
     ensures chosen { (h : List Event) → IsStateAfter wiring.now state.old h → IsChosen wiring.now h number result }
     ensures made { (h : List Event) → IsStateAfter wiring.now state.old h → IsStateAfter wiring.now state.new (h ++ result ∷ []) }
@@ -71,11 +71,11 @@ fn make_all(wiring: &Wiring, seed: u64, state: &mut State, history: &mut Vec<Eve
     }
 }
 
-/// The history of a wiring in which a seed chooses the actor of each event: a number starts as the seed and is turned once an event, and
-/// the first actor, cyclically from the one that it draws, that can make its next event makes it. The same seed gives the same history.
+/// The whole history of a wiring in which a seed chooses the actor of each event: a number starts as the seed and is turned once an event,
+/// and of the actors, cyclically from the one that it draws, the first that can make its next event makes it.
 ///
-/// `NoMemory` where the state or the history, 24 bytes an event, finds no room; both are taken before the first event. Each event costs one
-/// try of each actor at most, and a try costs the same however long the programs are.
+/// `NoMemory` where the history, with room for each event of the programs, or the state finds no room; no event has been made then, and
+/// none takes memory. An event costs a try of each actor at most, and a try takes no time that grows with the wiring or the history.
 pub fn rehearse(alloc: Global, wiring: &Wiring, seed: u64) -> Result<Vec<Event>, NoMemory>
     requires paced { (periods : List (List ℕ)) × IsPaced wiring.now periods }
     requires short { sum_by length wiring.now.programs ≤ 4000000 }

@@ -2,7 +2,8 @@
 use Rattle.std.proofs.Common.{◌≡◌, ℕ, List, [], ◌∷◌, ◌++◌, codes, decimal, append_assoc}
 use Rattle.text_lines.specs.Lines.{line}
 use Rattle.period_table.specs.declared.table.Table.{Table}
-use Rattle.run_text.specs.Batches.{batches_of, run_periods}
+use Rattle.actor_programs.specs.Tasks.{batches_of}
+use Rattle.actor_programs.specs.Programs.{run_periods}
 use Rattle.run_text.specs.Reports.{run_line}
 
 -- pieces that are appended one after another are appended together

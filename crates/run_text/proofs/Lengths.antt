@@ -9,7 +9,8 @@ use Rattle.platform_file.specs.Platform.{NodeView, IsNode, is_name}
 use Rattle.platform_file.specs.Ticks.{TimedView, IsTimed}
 use Rattle.text_lines.specs.Lines.{line}
 use Rattle.period_table.specs.declared.table.Table.{Table}
-use Rattle.run_text.specs.Batches.{batches_of, run_periods}
+use Rattle.actor_programs.specs.Tasks.{batches_of}
+use Rattle.actor_programs.specs.Programs.{run_periods}
 use Rattle.run_text.specs.Reports.{run_line, digest_line, digests_text, node_line, nodes_text, report_text, IsReportable}
 
 -- a text of three parts

@@ -1,6 +1,7 @@
 -- How many tasks each node computes in a run.
-use Rattle.std.specs.Prelude.{ℕ, zero, suc, ◌+◌, List, length, map, cond, nat_eq, count_by, slice_get, option_map_or}
+use Rattle.std.specs.Prelude.{ℕ, zero, suc, ◌+◌, List, length, map, cond, nat_eq, count_by, slice_get}
 use Rattle.std.specs.List.{range_with_len}
+use Rattle.std.specs.Option.{option_map_or}
 use Rattle.platform_file.specs.Ticks.{TimedView}
 use Rattle.period_table.specs.declared.table.Table.{Table}
 use Rattle.step_core.specs.declared.wiring.Event.{Event}

@@ -1,3 +1,3 @@
-pub mod Batches
+pub mod Counts
 pub mod Reports
 pub mod Counts

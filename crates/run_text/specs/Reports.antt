@@ -5,7 +5,8 @@ use Rattle.platform_file.specs.Platform.{NodeView}
 use Rattle.platform_file.specs.Ticks.{TimedView}
 use Rattle.text_lines.specs.Lines.{line}
 use Rattle.period_table.specs.declared.table.Table.{Table}
-use Rattle.run_text.specs.Batches.{batches_of, run_periods}
+use Rattle.actor_programs.specs.Tasks.{batches_of}
+use Rattle.actor_programs.specs.Programs.{run_periods}
 
 -- the chunks, batches, periods and events of a run
 abbrev pub run_line : Table → ℕ → ℕ → List ℕ

@@ -1,7 +1,8 @@
 //! Batches and periods of a run.
 
 ghost use Rattle.std.specs.Prelude.{◌≡◌, ◌≤◌, ◌<◌, ◌+◌, ◌^◌};
-ghost use Rattle.run_text.specs.Batches.{batches_of, run_periods};
+ghost use Rattle.actor_programs.specs.Tasks.{batches_of};
+ghost use Rattle.actor_programs.specs.Programs.{run_periods};
 
 use period_table::Table;
 

@@ -44,6 +44,7 @@ fn dones_at(node: u32, actors: &[Actor], wiring: &Wiring) -> u64
     requires short { sum_by length wiring.now.programs ≤ 4000000 }
     ensures { result ≡ dones_at node actors.now wiring.now }
 {
+    wiring.known();
     let mut count = 0;
     for number in 0..actors.len() {
         count += dones_of(node, wiring.program(number as u32), actors[number]);
@@ -52,7 +53,12 @@ fn dones_at(node: u32, actors: &[Actor], wiring: &Wiring) -> u64
 }
 
 /// How many tasks each node computes with these actors, in node order.
-fn counts_of(alloc: Global, nodes: u32, actors: &[Actor], wiring: &Wiring) -> Result<Vec<u64>, NoMemory>
+fn counts_of(
+    alloc: Global,
+    nodes: u32,
+    actors: &[Actor],
+    wiring: &Wiring,
+) -> Result<Vec<u64>, NoMemory>
     requires each { length actors.now ≡ length wiring.now.programs }
     requires short { sum_by length wiring.now.programs ≤ 4000000 }
     ensures { IfOk result (λ counts. counts.items ≡ map (λ node. dones_at node actors.now wiring.now) (range_with_len 0 nodes)) }
@@ -70,12 +76,19 @@ fn counts_of(alloc: Global, nodes: u32, actors: &[Actor], wiring: &Wiring) -> Re
 /// # Errors
 ///
 /// `NoMemory` where memory runs out.
-pub fn node_counts(alloc: Global, timed: &Timed, table: &Table, chunks: u64, wiring: &Wiring) -> Result<Vec<u64>, NoMemory>
+pub fn node_counts(
+    alloc: Global,
+    timed: &Timed,
+    table: &Table,
+    chunks: u64,
+    wiring: &Wiring,
+) -> Result<Vec<u64>, NoMemory>
     requires wiring { wiring.now ≡ wiring_of timed.now table.now chunks }
     requires short { sum_by length wiring.now.programs ≤ 4000000 }
     ensures { IfOk result (λ counts. counts.items ≡ node_counts timed.now table.now chunks) }
 {
     timed.known();
+    // It names the wiring that the contract speaks of.
     let _ = chunks;
     let actors = actors(alloc, timed, table)?;
     counts_of(

@@ -1,9 +1,7 @@
 -- What the counts of a schedule weigh in a row, operation by operation.
-use Rattle.std.proofs.Common.{◌≡◌, ℕ, ◌*◌, ◌/◌, ◌<◌, Bool, true, false, ◌&&◌, cond, nat_eq, List, length, All, count_by, ℤ, pos, ◌+ℤ◌, ◌*ℤ◌, refl, sym, ap, ◌∙◌}
-use Rattle.std.proofs.Math.IntN.{*ℤ_comm}
+use Rattle.std.proofs.Common.{◌≡◌, ℕ, ◌/◌, ◌<◌, Bool, true, false, ◌&&◌, cond, nat_eq, List, length, All, count_by, ℤ, pos, ◌+ℤ◌, ◌*ℤ◌, refl, sym, ap, ◌∙◌}
 use Rattle.std.proofs.lemmas.Bool.{eq-eqb, ne_eqb}
 use Rattle.linear_program.specs.Sums.{sum_below}
-use Rattle.linear_program.proofs.Integers.{times_product}
 use Rattle.linear_program.proofs.Sums.{same_sum, sum_scaled, zero_sum, single_sum}
 use Rattle.platform_file.specs.Ticks.{TimedView}
 use Rattle.schedule_model.specs.declared.schedule.Op.{Op}
@@ -14,7 +12,7 @@ use Rattle.schedule_model.specs.Validity.{IsInRange, completed}
 use Rattle.programme_rows.specs.Cells.{where_true}
 use Rattle.programme_rows.proofs.Listings.{sum_over, sum_by_index}
 use Rattle.programme_rows.proofs.Exchanges.{sum_over_same, sum_exchange}
-use Rattle.programme_rows.proofs.Weights.{counted, picked, none_picked, where_times}
+use Rattle.programme_rows.proofs.Weights.{counted, picked, none_picked, where_times, regrouped}
 use Rattle.scatter_program.specs.declared.columns.Column.{Column}
 use Rattle.scatter_program.specs.declared.columns.Column.TheVariants.{Rate, Flows}
 use Rattle.scatter_program.specs.Columns.{carries, flows_below, columns_of, column_at}
@@ -81,9 +79,3 @@ module _ (t : TimedView) where
       ∙ sym (sum_scaled (length columns) (pos k) (λ j. f (column_at columns j) *ℤ pos (operations_in t s (column_at columns j))))
       ∙ ap (λ z. pos k *ℤ z)
       (sum_by_index (λ c. f c *ℤ pos (operations_in t s c)) Rate columns ∙ ap (λ z. f Rate *ℤ pos (completed t Scatter s) +ℤ z) (flows_weigh f s range))
-    where
-      regrouped : (z : ℤ) (n k : ℕ) → z *ℤ pos (n * k) ≡ pos k *ℤ (z *ℤ pos n)
-      regrouped z n k = ap (λ m. z *ℤ m) (apart n k) ∙ sym (times_product z (pos n) (pos k)) ∙ *ℤ_comm (z *ℤ pos n) (pos k)
-        where
-          apart : (n k : ℕ) → pos (n * k) ≡ pos n *ℤ pos k
-          apart n k = refl

@@ -1,7 +1,5 @@
 -- Totals over the links that pass a test.
-use Rattle.std.proofs.Common.{◌≡◌, ℕ, zero, suc, ◌+◌, ◌*◌, ◌<◌, ◌≤◌, Bool, true, false, ◌&&◌, cond, nat_eq, refl, sym, ap, ◌∙◌, arith, inl, inr}
-use Rattle.std.proofs.lemmas.Bool.{cases_lt}
-use Rattle.std.proofs.lemmas.Bool.Decides.{nat_tests}
+use Rattle.std.proofs.Common.{◌≡◌, ℕ, zero, suc, ◌+◌, ◌*◌, ◌<◌, ◌≤◌, Bool, true, false, ◌&&◌, cond, refl, sym, ap, ◌∙◌, arith}
 use Rattle.programme_rows.specs.Listings.{total_below}
 use Rattle.programme_rows.proofs.Totals.{no_total, same_total, total_plus, total_scaled, total_at_most}
 
@@ -36,25 +34,3 @@ pub total_in_ratio : (n a b : ℕ) (f g : ℕ → ℕ) → ((k : ℕ) → k < n 
 total_in_ratio n a b f g h =
     let all = total_at_most n (λ k. a * f k) (λ k. b * g k) h in
     omega (arith, all, total_scaled n a f, total_scaled n b g)
-
--- a total of which one number alone may not be 0
-none_before : (n e c : ℕ) → n ≤ e → total_below n (λ k. cond (nat_eq k e) c 0) ≡ 0
-none_before zero e c l = refl
-none_before (suc n) e c l =
-    let other : nat_eq n e ≡ false = grind (arith, nat_tests) in
-    let before = none_before n e c (omega arith) in
-    rw other (omega (arith, before))
-
-pub one_total : (n e c : ℕ) → e < n → total_below n (λ k. cond (nat_eq k e) c 0) ≡ c
-one_total zero e c l = absurd (omega arith)
-one_total (suc n) e c l =
-    elim (cases_lt e n) [
-      | inl below ↦
-          let other : nat_eq n e ≡ false = grind (arith, nat_tests) in
-          let before = one_total n e c below in
-          rw other (omega (arith, before))
-      | inr from ↦
-          let same : nat_eq n e ≡ true = grind (arith, nat_tests) in
-          let before = none_before n e c (omega arith) in
-          rw same (omega (arith, before))
-    ]

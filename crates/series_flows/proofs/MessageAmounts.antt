@@ -13,7 +13,7 @@ use Rattle.linear_program.specs.Duality.{IsFeasible}
 use Rattle.programme_rows.specs.Listings.{total_below}
 use Rattle.programme_rows.specs.LookUps.{value_of}
 use Rattle.programme_rows.proofs.Listings.{each_all}
-use Rattle.programme_rows.proofs.Totals.{one_of_total, same_total}
+use Rattle.programme_rows.proofs.Totals.{one_of_total, same_total, one_total}
 use Rattle.scatter_program.specs.declared.columns.Column.{Column}
 use Rattle.scatter_program.specs.declared.columns.Column.TheVariants.{Rate, Flows}
 use Rattle.scatter_program.specs.Columns.{target_of, carries, flows_of, flows_below, columns_of}
@@ -25,7 +25,7 @@ use Rattle.series_flows.specs.Amounts.{over, over_kinds, AreAmounts}
 use Rattle.series_flows.proofs.Terms.{true_or_false}
 use Rattle.series_flows.proofs.Whole.{no_tasks, AreInTicks, values_small, feasible, gains}
 use Rattle.series_flows.proofs.Bounds.{lasting, some_cost, unit_of_costs, sender_inside}
-use Rattle.series_flows.proofs.LinkTotals.{used_alone, over_each_kind, total_in_ratio, one_total}
+use Rattle.series_flows.proofs.LinkTotals.{used_alone, over_each_kind, total_in_ratio}
 
 -- a column's messages in the ticks
 abbrev pub messages_of : TimedView → List Fraction → ℕ → Column → ℕ

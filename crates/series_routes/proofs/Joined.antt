@@ -17,7 +17,7 @@ use Rattle.series_flows.specs.Programmes.{kinds_of}
 use Rattle.series_flows.specs.Flows.{ends_of, flow_with}
 use Rattle.series_flows.specs.Amounts.{over_kinds, AreAmounts}
 use Rattle.series_flows.proofs.Terms.{term_there}
-use Rattle.series_routes.specs.Routings.{tasks_of_kind, AreRuledRoutes, AreRoutesBelow}
+use Rattle.series_routes.specs.Routings.{tasks_of_kind, AreRoutesBelow}
 use Rattle.series_routes.specs.Solutions.{IsRouteOf}
 use Rattle.series_routes.proofs.Totals.{total_within, all_brought}
 use Rattle.series_routes.proofs.Walks.{comes_to, are_routes}

@@ -1,5 +1,5 @@
 -- The routes of a solution leave every port, processor and target what it needs.
-use Rattle.std.proofs.Common.{◌≡◌, ℕ, zero, suc, ◌+◌, ◌*◌, ◌%◌, ◌^◌, ◌<◌, ◌≤◌, true, false, cond, nat_eq, List, [], ◌∷◌, length, All, sum_by, refl, sym, ap, ◌∙◌, arith, inl, inr}
+use Rattle.std.proofs.Common.{◌≡◌, ℕ, zero, suc, ◌+◌, ◌*◌, ◌%◌, ◌^◌, ◌<◌, ◌≤◌, false, cond, nat_eq, List, [], ◌∷◌, length, All, sum_by, refl, sym, ap, ◌∙◌, arith, inl, inr}
 use Prim.Native.Nat.{◌∣◌}
 use Rattle.std.proofs.Math.Nat.{mul-le-mul_right}
 use Rattle.std.proofs.lemmas.Nat.Gcd.{mod-eq-zero_of_dvd}
@@ -14,17 +14,14 @@ use Rattle.schedule_model.specs.declared.schedule.Series.{Series}
 use Rattle.schedule_model.specs.declared.schedule.Series.TheVariants.{Tasking, Scatter}
 use Rattle.flow_routes.specs.Routes.{carried, brought}
 use Rattle.flow_routes.specs.declared.flow.Route.{Route}
-use Rattle.bipartite_slots.specs.Parts.{AreWithin}
 use Rattle.period_table.specs.Tables.{IsWalk}
 use Rattle.programme_rows.specs.Listings.{total_below}
 use Rattle.programme_rows.proofs.Listings.{each_of}
-use Rattle.programme_rows.proofs.Totals.{total_at_most}
 use Rattle.series_flows.specs.Programmes.{kinds_of}
 use Rattle.series_flows.specs.Flows.{flow_in, use_in, flow_of}
-use Rattle.series_flows.specs.Amounts.{over_kinds, AreInUse, AreAmounts}
+use Rattle.series_flows.specs.Amounts.{over_kinds, AreAmounts}
 use Rattle.series_routes.specs.declared.numbers.Scale.{Scale}
 use Rattle.series_routes.specs.Numbers.{is_in_use, costs_in_use}
-use Rattle.series_routes.specs.Loads.{weights_of}
 use Rattle.series_routes.specs.Routings.{tasks_of_kind, AreRoutesBelow}
 use Rattle.series_routes.specs.Solutions.{IsRouteOf, AreUsed, IsRouting}
 use Rattle.series_routes.proofs.InUse.{in_use}

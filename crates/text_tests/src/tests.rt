@@ -1,3 +1,4 @@
 mod certificates;
 mod plans;
+mod reports;
 mod words;

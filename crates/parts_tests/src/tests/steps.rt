@@ -1,6 +1,6 @@
 //! Node steps over a wiring that was worked out by hand.
 
-ghost use Rattle.std.specs.Prelude.{◌≡◌, ◌<◌, ◌∷◌, [], length, IfOk};
+ghost use Rattle.std.specs.Prelude.{◌≡◌, ◌<◌, ◌∷◌, ◌++◌, [], length, IfOk};
 ghost use Rattle.step_core.specs.declared.wiring.Event.TheVariants.{Open, Close};
 ghost use Rattle.step_core.specs.States.{IsStateOf};
 ghost use Rattle.parts_tests.specs.Relays.{relay_lanes, sends_two, sends_one, passes_on, relay};
@@ -69,12 +69,19 @@ fn passes_on(alloc: Global) -> Result<Listed<Event>, NoMemory>
     listed_of(alloc, &[taken, open(2, 2, 0), close(2, 2, 0), computed])
 }
 
+/// Puts the programs of node 0 behind others.
+fn push_senders(alloc: Global, programs: &mut Listed<Listed<Event>>) -> Result<(), NoMemory>
+    ensures { IfOk result (λ _. programs.new ≡ programs.old ++ sends_two ∷ (sends_one ∷ [])) }
+{
+    programs.push(sends_two(alloc)?)?;
+    programs.push(sends_one(alloc)?)
+}
+
 fn programs(alloc: Global) -> Result<Listed<Listed<Event>>, NoMemory>
     ensures { IfOk result (λ programs. programs ≡ sends_two ∷ (sends_one ∷ (passes_on ∷ []))) }
 {
     let mut programs = Listed::new(alloc);
-    programs.push(sends_two(alloc)?)?;
-    programs.push(sends_one(alloc)?)?;
+    push_senders(alloc, &mut programs)?;
     programs.push(passes_on(alloc)?)?;
     Ok(programs)
 }

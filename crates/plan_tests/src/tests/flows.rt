@@ -19,7 +19,7 @@ use std::alloc::Global;
 use std::test::Fail;
 
 /// Two targets, the second of them behind the first.
-const TWO_TARGETS: &str =
+pub(crate) const TWO_TARGETS: &str =
     "version = 1\nmaster = 'm'\ntargets = ['a', 'b']\nnode = [{name = 'm'}, {name = 'a'}, {name = 'b'}]\n\
     link = [{from = 'm', to = 'a', cost = 1}, {from = 'a', to = 'b', cost = 1}]\n";
 

@@ -5,6 +5,7 @@ use crate::tests::flows::{tells_no_target, tells_two_targets};
 use crate::tests::plans::{tells_lone_master, tells_workers};
 use crate::tests::platforms::{tells_arrays, tells_pair};
 use crate::tests::programmes::tells_halves;
+use crate::tests::routings::tells_routes;
 use crate::tests::schedules::{tells_of_one_worker, tells_of_the_diamond};
 use crate::tests::tables::{tells_chain, tells_rates};
 use crate::tests::unrolled_tables::{tells_lengths, tells_periods};
@@ -22,6 +23,7 @@ pub(crate) enum Told {
     Halves,
     TwoTargets,
     NoTarget,
+    Routes,
     Workers,
     LoneMaster,
     Chain,
@@ -39,6 +41,7 @@ fn tells(alloc: Global, timed: &Timed, told: Told) -> Result<(), Fail> {
         Told::Halves => tells_halves(alloc, timed),
         Told::TwoTargets => tells_two_targets(alloc, timed),
         Told::NoTarget => tells_no_target(alloc, timed),
+        Told::Routes => tells_routes(alloc, timed),
         Told::Workers => tells_workers(alloc, timed),
         Told::LoneMaster => tells_lone_master(alloc, timed),
         Told::Chain => tells_chain(alloc, timed),

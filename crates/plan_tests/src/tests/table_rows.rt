@@ -115,7 +115,7 @@ fn is_of_route(route: &Route, row: &RouteRow) -> bool {
     (route.end, route.count, route.kind) == (row.0, row.1, row.2) && route.links.as_slice() == row.3
 }
 
-fn are_of_routes(routes: &[Route], rows: &[RouteRow]) -> bool {
+pub(crate) fn are_of_routes(routes: &[Route], rows: &[RouteRow]) -> bool {
     for (route, row) in routes.iter().zip(rows) {
         if !is_of_route(route, row) {
             return false;

@@ -1,7 +1,8 @@
 use Rattle.std.proofs.Common.{◌≡◌, ℕ, ◌<◌, List, length}
 use Rattle.step_core.specs.declared.wiring.Event.{Event}
 use Rattle.step_core.specs.States.{IsStateAfter}
-use Rattle.rehearsal.specs.Choices.{tried_after, IsEnabled}
+use Rattle.step_core.specs.Histories.{IsEnabled}
+use Rattle.rehearsal.specs.Choices.{tried_after}
 use Rattle.rehearsal.proofs.turns.choose.Given as goal
 
 abbrev pub invariant-loop-tried : goal.invariant-loop-tried

@@ -25,3 +25,9 @@ loop-k-init c =
 
 pub loop-k-preserved : goal.loop-k-preserved
 loop-k-preserved c = first_of (search rules, grind (arith, common_steps))
+
+pub loop-k-preserved-in-Rate : goal.loop-k-preserved-in-Rate
+loop-k-preserved-in-Rate c = first_of (search rules, grind (arith, common_steps))
+
+pub loop-k-preserved-then-own-kind : goal.loop-k-preserved-then-own-kind
+loop-k-preserved-then-own-kind c = first_of (search rules, grind (arith, common_steps))

@@ -1,9 +1,9 @@
-use Rattle.std.proofs.Common.{rules, ◌≡◌, ℕ, suc, ◌<◌, ◌≤◌, Bool, true, false, [], ◌∷◌, length, Ok, Err, sym, ap, ◌∙◌, add-one, arith}
+use Rattle.std.proofs.Common.{rules, ◌≡◌, suc, ◌<◌, ◌≤◌, true, false, [], ◌∷◌, length, Ok, Err, sym, ap, ◌∙◌, add-one, arith}
 use Rattle.std.proofs.lemmas.Option.{get_or_from_slice_get}
 use Rattle.schedule_model.specs.Operations.{cost_of}
 use Rattle.series_routes.specs.Numbers.{goes_over, multiple_of}
 use Rattle.series_routes.specs.declared.numbers.PeriodStep.TheVariants.{Costs}
-use Rattle.series_routes.proofs.Multiples.{so_far, grown, skipped, ended}
+use Rattle.series_routes.proofs.Multiples.{grown, skipped, ended}
 use Rattle.series_routes.proofs.numbers.common_cost.Goals.{then-is_in_use+in_ok-common, else-is_in_use}
 use Rattle.series_routes.proofs.numbers.common_cost.Goals as goal
 

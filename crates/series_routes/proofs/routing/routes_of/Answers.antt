@@ -1,10 +1,7 @@
-use Rattle.std.proofs.Common.{rules, ◌≡◌, ℕ, ◌<◌, ◌++◌, length, get_or, subst, ap, ◌∙◌, add-one}
-use Rattle.exact_simplex.specs.Optima.{first_terms}
+use Rattle.std.proofs.Common.{rules, ◌≡◌, ◌<◌, ◌++◌, length, get_or, subst, ap, ◌∙◌, add-one}
 use Rattle.flow_routes.specs.Routes.{AreRoutes}
 use Rattle.flow_routes.specs.Rounds.{AreChosen}
-use Rattle.flow_routes.specs.declared.flow.Flow.{Flow}
 use Rattle.series_flows.proofs.Terms.{term_there}
-use Rattle.series_routes.specs.Routings.{AreRoutesBelow}
 use Rattle.series_routes.proofs.routing.routes_of.Goals as goal
 
 pub loop-kind-preserved : goal.loop-kind-preserved

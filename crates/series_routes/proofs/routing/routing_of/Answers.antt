@@ -1,4 +1,4 @@
-use Rattle.std.proofs.Common.{rules, ◌≡◌, ℕ, ◌*◌, ◌≤◌, ◌^◌, length, Ok, Err, pos, ◌*ℤ◌, sym, ap, ◌∙◌, subst, inr}
+use Rattle.std.proofs.Common.{rules, ◌≡◌, ◌*◌, ◌≤◌, ◌^◌, length, Ok, Err, pos, ◌*ℤ◌, sym, ap, ◌∙◌, subst, inr}
 use Rattle.schedule_model.specs.Operations.{cost_of}
 use Rattle.exact_simplex.specs.Optima.{first_terms}
 use Rattle.programme_rows.specs.Listings.{each_where}
@@ -7,7 +7,7 @@ use Rattle.series_flows.specs.Flows.{flow_of}
 use Rattle.series_flows.proofs.Terms.{length_terms}
 use Rattle.series_routes.specs.declared.numbers.PeriodStep.TheVariants.{Costs}
 use Rattle.series_routes.specs.declared.numbers.Scale.{Scale}
-use Rattle.series_routes.specs.Numbers.{goes_over, multiple_of, common_denominator, common_cost, product_of, scale_of}
+use Rattle.series_routes.specs.Numbers.{goes_over, multiple_of, common_denominator, common_cost, scale_of}
 use Rattle.series_routes.specs.Routings.{AreRoutesBelow}
 use Rattle.series_routes.proofs.Multiples.{denominators_divide, remainders, costs_divide, fault_in_costs, fault_in_product, all_steps}
 use Rattle.series_routes.proofs.Flows.{all_long, all_flows, same_cost}

@@ -17,7 +17,7 @@ returns-clause-ok c =
     let counted : c.rows-rows.result ≡ f.constraints + 1 = c.rows-rows.ensures in
     let whole : length new ≡ c.self.inside.cells.len = made.length ∙ ap length c.as_mut_slice.ensures.value ∙ sym c.self.inside.cells.ok.0 in
     let cells = with_items_is c.self.inside.cells new whole in
-    pivoted_lists f _ r column c.known.ensures c.requires.row
+    pivoted_lists f (record { values = _; constraints = _; cells = _; basics = _; columns = f.columns }) r column c.known.ensures c.requires.row
     record {
       values = ap (λ g. g.values) c.self.view_is;
       constraints = ap (λ g. g.constraints) c.self.view_is;

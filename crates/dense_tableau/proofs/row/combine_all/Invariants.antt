@@ -1,6 +1,6 @@
 use Rattle.std.proofs.Common.{◌≡◌, ◌≢◌, ℕ, ◌<◌, ◌≤◌, ◌^◌, pos, nat_abs, ◌-ℤ◌, ◌*ℤ◌, length}
 use Rattle.dense_tableau.specs.Flat.{entry}
-use Rattle.dense_tableau.proofs.row.combine.Given as goal
+use Rattle.dense_tableau.proofs.row.combine_all.Given as goal
 
 abbrev pub invariant-loop-j : goal.invariant-loop-j
 invariant-loop-j l = record {
