@@ -8,6 +8,7 @@ use Rattle.platform_file.specs.Platform.{PlatformView}
 use Rattle.platform_file.specs.Reading.{platform_of}
 use Rattle.platform_file.specs.Ticks.{TimedView, timed_of}
 use Rattle.schedule_model.specs.declared.schedule.Series.{Series}
+use Rattle.schedule_model.specs.declared.schedule.Series.TheVariants.{Tasking}
 use Rattle.schedule_model.specs.Throughput.{IsUpperRate}
 use Rattle.linear_program.specs.Certificates.{CertificateView}
 use Rattle.series_flows.specs.Programmes.{programme_of, lacks_targets}
@@ -23,8 +24,9 @@ use Rattle.steady_top.specs.declared.status.Status.TheVariants as status
 use Rattle.period_table.specs.Best.{IsBest}
 use Rattle.plan_text.specs.Texts.{plan_text}
 use Rattle.steady_top.specs.Refusals.{Reason, Refusal, usage, refused, cannot_read, no_memory, reason_status, status_of, error_line}
-use Rattle.command_words.specs.Words.{Command, plan, prices, check, audit, command_of}
+use Rattle.command_words.specs.Words.{Command, plan, prices, check, audit, rehearse, command_of}
 use Rattle.steady_top.specs.Audits.{IsAudit}
+use Rattle.steady_top.specs.Rehearsals.{IsRehearsal}
 use Rattle.steady_top.specs.Outcomes.{first_name, second_name, files_of, files_for, upper_text, Outcome, IsPrint, IsRefusal, with_file, outcome_for}
 
 -- this may be what a name holds of which that is told
@@ -106,12 +108,24 @@ pub record IsAuditedText (periods : ℕ) (before : FilesView) (name second text 
   pub file : MayBe (before.held second) (Some bytes)
   pub audit : IsAudit periods timed bytes text
 
+-- the text is that of the plan of the platform of the file's bytes, whose table is best, and of its run over the second file's bytes in chunks
+-- of a size: of the table's wiring a complete legal history, in which the seed chooses each event, the digest of each chunk and the tasks that
+-- each node computes
+pub record IsRehearsedText (pivots size seed : ℕ) (before : FilesView) (name second text : List ℕ) : Type 0 where
+  pub timed : TimedView
+  pub platform : IsPlatformOf before name timed
+  pub bytes : List ℕ
+  pub file : MayBe (before.held second) (Some bytes)
+  pub rehearsal : IsRehearsal pivots size seed timed bytes text
+  pub best : IsBest timed Tasking rehearsal.runnable.plan.table
+
 -- what a command's text claims
 abbrev pub IsClaim : Command → FilesView → List ℕ → Type 0
 IsClaim (plan name series pivots) before text = IsBestText pivots series before name text
 IsClaim (prices name series pivots) before text = IsPricedText pivots series before name text
 IsClaim (check name second series) before text = IsCheckedText series before name second text
 IsClaim (audit name other periods) before text = IsAuditedText periods before name other text
+IsClaim (rehearse name other chunk seed pivots) before text = IsRehearsedText pivots chunk seed before name other text
 
 -- in a call so many opens were made, as far as their count goes
 abbrev pub AreOpened : ℕ → FilesView → FilesView → Type 0

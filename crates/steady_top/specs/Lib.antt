@@ -1,5 +1,6 @@
 pub mod Refusals
 pub mod Audits
+pub mod Rehearsals
 pub mod Outcomes
 pub mod Answers
 pub mod Exits

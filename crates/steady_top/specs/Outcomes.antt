@@ -1,7 +1,7 @@
 -- What the program answers, for given words and contents of files (this project).
 use Rattle.std.specs.Prelude.{◌≡◌, ℕ, ◌+◌, cond, List, ◌++◌, length, Option, Some, None, Result, Ok, Err, nat_lt, codes, decimal}
 use Rattle.std.specs.Fmt.{signed_decimal}
-use Rattle.command_words.specs.Words.{Command, plan, prices, check, audit, command_of}
+use Rattle.command_words.specs.Words.{Command, plan, prices, check, audit, rehearse, command_of}
 use Rattle.platform_file.specs.declared.fault.PlatformFault.{PlatformFault}
 use Rattle.platform_file.specs.declared.fault.PlatformFault.TheVariants.{Limit}
 use Rattle.platform_file.specs.declared.fault.Kind.TheVariants.{Text}
@@ -10,6 +10,7 @@ use Rattle.platform_file.specs.declared.fault.TimedFault.{TimedFault}
 use Rattle.platform_file.specs.Reading.{most_bytes, platform_of}
 use Rattle.platform_file.specs.Ticks.{TimedView, timed_of}
 use Rattle.schedule_model.specs.declared.schedule.Series.{Series}
+use Rattle.schedule_model.specs.declared.schedule.Series.TheVariants.{Tasking}
 use Rattle.linear_program.specs.Certificates.{CertificateView}
 use Rattle.series_flows.specs.Programmes.{programme_of, lacks_targets}
 use Rattle.dual_checker.specs.declared.verdict.Verdict.{Verdict}
@@ -26,8 +27,10 @@ use Rattle.planner.specs.Prices.{prices_of}
 use Rattle.planner.specs.Plans.{fault_of, IsPlan}
 use Rattle.text_lines.specs.Lines.{line}
 use Rattle.plan_text.specs.Texts.{plan_text}
+use Rattle.chunk_tasks.specs.Chunks.{chunk_count}
 use Rattle.steady_top.specs.Audits.{IsAudit, IsSound, IsUnsound}
-use Rattle.steady_top.specs.Refusals.{Reason, Refusal, usage, refused, no_platform, no_ticks, long_certificate, certificate_line, negative_price, uncovered_column, passed_value, check_overflow, long_plan, cannot_read, no_memory, platform_refusal, timed_refusal, plan_refusal}
+use Rattle.steady_top.specs.Rehearsals.{most_data_bytes, IsRunnable, IsRunReason, IsRehearsal}
+use Rattle.steady_top.specs.Refusals.{Reason, Refusal, usage, refused, no_platform, no_ticks, long_certificate, certificate_line, negative_price, uncovered_column, passed_value, check_overflow, long_plan, long_data, cannot_read, no_memory, platform_refusal, timed_refusal, plan_refusal}
 
 -- the file that a command opens first
 abbrev pub first_name : Command → List ℕ
@@ -35,6 +38,7 @@ first_name (plan name series pivots) = name
 first_name (prices name series pivots) = name
 first_name (check name certificate series) = name
 first_name (audit name other periods) = name
+first_name (rehearse name other chunk seed pivots) = name
 
 -- the file that it opens behind it, where it opens two
 abbrev pub second_name : Command → List ℕ
@@ -42,6 +46,7 @@ second_name (plan name series pivots) = name
 second_name (prices name series pivots) = name
 second_name (check name certificate series) = certificate
 second_name (audit name other periods) = other
+second_name (rehearse name other chunk seed pivots) = other
 
 -- how many files a command opens where nothing refuses
 abbrev pub files_of : Command → ℕ
@@ -49,6 +54,7 @@ files_of (plan name series pivots) = 1
 files_of (prices name series pivots) = 1
 files_of (check name certificate series) = 2
 files_of (audit name other periods) = 2
+files_of (rehearse name other chunk seed pivots) = 2
 
 -- how many files it has opened where what was read is refused: a reason of the platform or of its ticks stands behind the first one alone
 abbrev pub files_for : Command → Reason → ℕ
@@ -57,11 +63,12 @@ files_for command (no_ticks fault) = 1
 files_for command reason = files_of command
 
 -- the program prints these bytes, prints the plan of a platform for a series that is found with at most so many pivots, audits the bytes of
--- a plan over so many periods, or refuses
+-- a plan over so many periods, rehearses the plan of a platform over data in chunks of a size by a seed, or refuses
 pub data Outcome : Type 0 where
   prints : List ℕ → Outcome
   plans : ℕ → TimedView → Series → Outcome
   audits : ℕ → TimedView → List ℕ → Outcome
+  rehearses : ℕ → ℕ → ℕ → TimedView → List ℕ → Outcome
   refuses : Refusal → Outcome
 
 -- what comes of a platform that is brought into ticks
@@ -103,6 +110,7 @@ abbrev pub IsPrint : Outcome → List ℕ → Type 0
 IsPrint (prints bytes) text = text ≡ bytes
 IsPrint (plans pivots t series) text = IsPlanText pivots t series text
 IsPrint (audits periods t bytes) text = IsAudit periods t bytes text
+IsPrint (rehearses pivots size seed t bytes) text = IsRehearsal pivots size seed t bytes text
 IsPrint (refuses refusal) text = ⊥
 
 -- the outcome is no refusal
@@ -110,6 +118,7 @@ abbrev pub IsText : Outcome → Type 0
 IsText (prints bytes) = Unit {0}
 IsText (plans pivots t series) = Unit {0}
 IsText (audits periods t bytes) = IsSound periods t bytes
+IsText (rehearses pivots size seed t bytes) = IsRunnable pivots t (chunk_count size bytes)
 IsText (refuses refusal) = ⊥
 
 -- the outcome is this refusal
@@ -118,6 +127,8 @@ IsRefusal (prints bytes) refusal = ⊥
 IsRefusal (plans pivots t series) refusal = ⊥
 IsRefusal (audits periods t bytes) (refused reason) = IsUnsound periods t bytes reason
 IsRefusal (audits periods t bytes) refusal = ⊥
+IsRefusal (rehearses pivots size seed t bytes) (refused reason) = IsRunReason pivots t (chunk_count size bytes) reason
+IsRefusal (rehearses pivots size seed t bytes) refusal = ⊥
 IsRefusal (refuses other) refusal = other ≡ refusal
 
 -- the text of a certificate, or why there is none; a run over a bounded programme always has an answer
@@ -175,12 +186,32 @@ abbrev pub audit_of_name : List ℕ → ℕ → Option (List ℕ) → TimedView 
 audit_of_name name periods None t = refuses (cannot_read name)
 audit_of_name name periods (Some bytes) t = audit_of_file periods t bytes
 
+-- a platform that is planned is rehearsed over some data, or there is a fault
+abbrev pub rehearsed : ℕ → ℕ → ℕ → TimedView → List ℕ → Option PlanFault → Outcome
+rehearsed pivots size seed t bytes None = rehearses pivots size seed t bytes
+rehearsed pivots size seed t bytes (Some fault) = refuses (plan_refusal fault)
+
+-- what comes of the bytes of data within their limit
+abbrev pub rehearse_of_bytes : ℕ → ℕ → ℕ → TimedView → List ℕ → Outcome
+rehearse_of_bytes pivots size seed t bytes = rehearsed pivots size seed t bytes (fault_of pivots t Tasking)
+
+-- what comes of the bytes of data
+abbrev pub rehearse_of_file : ℕ → ℕ → ℕ → TimedView → List ℕ → Outcome
+rehearse_of_file pivots size seed t bytes =
+    cond (nat_lt most_data_bytes (length bytes)) (refuses (refused long_data)) (rehearse_of_bytes pivots size seed t bytes)
+
+-- what the files hold under the name of data, if there is such a file
+abbrev pub rehearse_of_name : List ℕ → ℕ → ℕ → ℕ → Option (List ℕ) → TimedView → Outcome
+rehearse_of_name name pivots size seed None t = refuses (cannot_read name)
+rehearse_of_name name pivots size seed (Some bytes) t = rehearse_of_file pivots size seed t bytes
+
 -- what comes of a platform in ticks and of the second file
 abbrev pub work_of : Command → Option (List ℕ) → TimedView → Outcome
 work_of (plan name series pivots) second t = plan_of pivots t series
 work_of (prices name series pivots) second t = certificate_for pivots t series
 work_of (check name certificate series) second t = check_of_name certificate second series t
 work_of (audit name other periods) second t = audit_of_name other periods second t
+work_of (rehearse name other chunk seed pivots) second t = rehearse_of_name other pivots chunk seed second t
 
 -- what comes of a command, of what its first name holds and of what its second one holds
 abbrev pub outcome_for : Command → Option (List ℕ) → Option (List ℕ) → Outcome

@@ -18,13 +18,15 @@ use Rattle.planner.specs.Prices.{prices_of, IsBestCertificate}
 use Rattle.plan_text.specs.Texts.{plan_text}
 use Rattle.period_table.specs.Best.{IsBest}
 use Rattle.steady_top.specs.Refusals.{Reason, Refusal, usage, refused, cannot_read, no_memory}
-use Rattle.steady_top.specs.Outcomes.{Outcome, files_of, files_for, refuses, IsRefusal, with_file, upper_text, most_plan_bytes}
+use Rattle.steady_top.specs.Outcomes.{Outcome, files_of, files_for, refuses, IsRefusal, with_file, upper_text, most_plan_bytes, rehearse_of_bytes}
 use Rattle.schedule_model.specs.declared.schedule.Series.{Series}
+use Rattle.schedule_model.specs.declared.schedule.Series.TheVariants.{Tasking}
 use Rattle.schedule_model.specs.declared.schedule.Schedule.{Schedule}
 use Rattle.period_table.specs.declared.table.Table.{Table}
 use Rattle.period_table.specs.TableSchedules.{ops_below, table_schedule}
 use Rattle.plan_text.specs.Reading.{IsPlanOf}
 use Rattle.steady_top.specs.Audits.{most_operations, IsReason, IsAudit}
+use Rattle.steady_top.specs.Rehearsals.{most_data_bytes, IsRunReason, IsRehearsal}
 use Rattle.steady_top.specs.Answers.{MayBe, AreOpened, IsPlatformOf}
 
 -- a named file has no bytes to go on with: it can't be opened or read, it is longer than so many bytes, which is the refusal `long`, or
@@ -157,3 +159,28 @@ pub record IsAudited (t : TimedView) (periods : ℕ) (before : FilesView) (name 
   pub bytes : List ℕ
   pub read : IsSecondRead before name most_plan_bytes after bytes
   pub audit : IsAudit periods t bytes text
+
+-- the text is that of the platform's plan, whose table is best, and of its run over the data
+pub record IsBestRehearsal (pivots size seed : ℕ) (t : TimedView) (bytes text : List ℕ) : Type 0 where
+  pub rehearsal : IsRehearsal pivots size seed t bytes text
+  pub best : IsBest t Tasking rehearsal.runnable.plan.table
+
+-- the data of the file were read, and the text is that of the platform's plan and of its run over them
+pub record IsRehearsedOver (t : TimedView) (pivots size seed : ℕ) (before : FilesView) (name : List ℕ) (after : FilesView) (text : List ℕ) : Type 0 where
+  pub bytes : List ℕ
+  pub read : IsSecondRead before name most_data_bytes after bytes
+  pub done : IsBestRehearsal pivots size seed t bytes text
+
+-- a plan isn't carried out over so many chunks; memory may run out at any time
+abbrev pub IsRunFault : ℕ → TimedView → ℕ → Refusal → Type 0
+IsRunFault pivots t chunks no_memory = Unit {0}
+IsRunFault pivots t chunks usage = ⊥
+IsRunFault pivots t chunks (cannot_read name) = ⊥
+IsRunFault pivots t chunks (refused reason) = IsRunReason pivots t chunks reason
+
+-- the rehearsal over some data is refused; memory may run out at any time
+abbrev pub IsRehearsalFault : ℕ → ℕ → ℕ → TimedView → List ℕ → Refusal → Type 0
+IsRehearsalFault pivots size seed t bytes no_memory = Unit {0}
+IsRehearsalFault pivots size seed t bytes usage = ⊥
+IsRehearsalFault pivots size seed t bytes (cannot_read name) = ⊥
+IsRehearsalFault pivots size seed t bytes (refused reason) = IsRefusal (rehearse_of_bytes pivots size seed t bytes) (refused reason)

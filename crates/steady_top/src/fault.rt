@@ -76,6 +76,33 @@ impl fmt::Display for CheckFault {
     }
 }
 
+/// Why a plan isn't carried out over some data. `Display` writes the line that names the fault, without a line feed.
+#[derive(Clone, Copy)]
+pub enum RunFault {
+    /// There is a chunk, and the best rate is 0: no node that the master's tasks can reach computes.
+    NothingComputes,
+    /// The data's file is longer than 256 MiB.
+    LongData,
+    /// The run has more than 4,000,000 events.
+    LongEvents,
+}
+
+impl fmt::Display for RunFault {
+    ghost use Rattle.std.specs.Prelude.{Some};
+    ghost use Rattle.steady_top.specs.Refusals.{reason_text};
+    ghost use Rattle.steady_top.specs.Faults.{run_reason};
+
+    ghost output = { λ fault. Some (reason_text (run_reason fault)) };
+
+    fn fmt<W: fmt::Write>(&self, f: &mut fmt::Formatter<W>) -> fmt::Result {
+        match self {
+            RunFault::NothingComputes => f.write_str("no node that can be reached computes"),
+            RunFault::LongData => f.write_str("too long: data"),
+            RunFault::LongEvents => f.write_str("too long: events"),
+        }
+    }
+}
+
 /// Why the program refuses, with what its error line names. `Display` writes the line without `error: ` and the line feed.
 ///
 /// A fault of the crates below stands here as it is, but for `NoMemory`, which is one case for all.
@@ -95,6 +122,8 @@ pub enum TopFault<'a> {
     Unproved(CheckFault),
     /// The first operation of a plan's schedule that breaks a rule, and the first rule that it breaks.
     Breach(Breach),
+    /// The plan isn't carried out.
+    Unrun(RunFault),
     /// The file with this name can't be opened or read.
     CannotRead(&'a str),
     /// Memory ran out.
@@ -117,6 +146,7 @@ impl fmt::Display for TopFault<'_> {
             TopFault::Unread(fault) => fmt::Display::fmt(fault, f),
             TopFault::Unproved(fault) => fmt::Display::fmt(fault, f),
             TopFault::Breach(breach) => fmt::Display::fmt(breach, f),
+            TopFault::Unrun(fault) => fmt::Display::fmt(fault, f),
             TopFault::CannotRead(name) => write!(f, "cannot read {name}"),
             TopFault::NoMemory => f.write_str("out of memory"),
         }
@@ -195,13 +225,17 @@ impl TopFault<'_> {
     {
         match self {
             TopFault::Usage => Status::Usage,
-            TopFault::Platform(_) | TopFault::Plan(PlanFault::NoTargets) => Status::Platform,
+            TopFault::Platform(_)
+            | TopFault::Plan(PlanFault::NoTargets)
+            | TopFault::Unrun(RunFault::NothingComputes) => Status::Platform,
             TopFault::Plan(PlanFault::Spent { .. }) => Status::Spent,
             TopFault::Ticks(_) | TopFault::Plan(_) | TopFault::Unproved(CheckFault::Overflow(_)) =>
                 Status::Overflow,
             TopFault::Unread(ReadingFault::LongCertificate)
             | TopFault::Unread(ReadingFault::LongPlan)
-            | TopFault::Unread(ReadingFault::LongSchedule) => Status::TooLong,
+            | TopFault::Unread(ReadingFault::LongSchedule)
+            | TopFault::Unrun(RunFault::LongData)
+            | TopFault::Unrun(RunFault::LongEvents) => Status::TooLong,
             TopFault::Unread(ReadingFault::CertificateLine(_))
             | TopFault::Unread(ReadingFault::PlanLine(_))
             | TopFault::Unproved(CheckFault::NegativePrice(_))

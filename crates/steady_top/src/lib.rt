@@ -6,9 +6,10 @@ mod checking;
 mod fault;
 mod planning;
 mod reading;
+mod rehearsing;
 mod status;
 mod top;
 
-pub use fault::{CheckFault, ReadingFault, TopFault};
+pub use fault::{CheckFault, ReadingFault, RunFault, TopFault};
 pub use status::Status;
 pub use top::{refuse, steady};
