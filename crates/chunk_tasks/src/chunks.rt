@@ -39,8 +39,8 @@ impl Item {
     }
 }
 
-/// How many chunks there are.
-pub(crate) fn chunk_count(bytes: &[u8], size: usize) -> usize
+/// How many chunks of `size` bytes some data are cut into, the last one perhaps shorter.
+pub fn chunk_count(bytes: &[u8], size: usize) -> usize
     requires size { (1 ≤ size) × (size < 2 ^ 32) }
     ensures value { result ≡ chunk_count size bytes.now }
     ensures within { (number : ℕ) → number < result → number * size < length bytes.now }

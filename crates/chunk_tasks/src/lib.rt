@@ -7,5 +7,5 @@
 mod chunks;
 mod digests;
 
-pub use chunks::{Item, cut};
+pub use chunks::{Item, chunk_count, cut};
 pub use digests::{Digested, digest_chunks, digest_item};

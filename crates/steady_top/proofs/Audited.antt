@@ -13,7 +13,9 @@ use Rattle.plan_text.proofs.Readable.{readable, determined}
 use Rattle.steady_top.specs.Refusals.{Refusal, Reason, breach, usage, refused, cannot_read, no_memory, status_of, reason_status}
 use Rattle.steady_top.specs.Audits.{most_operations, audit_text, IsPlanned, IsSound, IsAudit, IsReason, IsUnsound}
 use Rattle.steady_top.specs.Planned.{IsScheduleOf}
-use Rattle.steady_top.specs.Outcomes.{Outcome, prints, plans, audits, refuses, IsPrint, IsText, IsRefusal}
+use Rattle.chunk_tasks.specs.Chunks.{chunk_count}
+use Rattle.steady_top.specs.Outcomes.{Outcome, prints, plans, audits, rehearses, refuses, IsPrint, IsText, IsRefusal}
+use Rattle.steady_top.proofs.Rehearsed.{runnable_or_refused, one_run_status}
 
 module _ (periods : ℕ) (t : TimedView) (bytes : List ℕ) (timed : IsTimed t) (small : length bytes < 2 ^ 64) where
   one_plan : (series other : Series) (table second : Table) → IsPlanOf t bytes series table → IsPlanOf t bytes other second → (series ≡ other) × (table ≡ second)
@@ -72,6 +74,10 @@ text_or_refusal (audits periods t bytes) usage text is = is
 text_or_refusal (audits periods t bytes) (cannot_read name) text is = is
 text_or_refusal (audits periods t bytes) (refused reason) text is = sound_or_unsound periods t bytes reason text is
 text_or_refusal (audits periods t bytes) no_memory text is = is
+text_or_refusal (rehearses pivots size seed t bytes) usage text is = is
+text_or_refusal (rehearses pivots size seed t bytes) (cannot_read name) text is = is
+text_or_refusal (rehearses pivots size seed t bytes) (refused reason) text is = runnable_or_refused pivots t (chunk_count size bytes) reason text is
+text_or_refusal (rehearses pivots size seed t bytes) no_memory text is = is
 text_or_refusal (refuses other) refusal text is = text
 
 -- an outcome that is printed is no refusal
@@ -82,6 +88,10 @@ print_or_refusal (audits periods t bytes) text usage print is = is
 print_or_refusal (audits periods t bytes) text (cannot_read name) print is = is
 print_or_refusal (audits periods t bytes) text (refused reason) print is = sound_or_unsound periods t bytes reason print.sound is
 print_or_refusal (audits periods t bytes) text no_memory print is = is
+print_or_refusal (rehearses pivots size seed t bytes) text usage print is = is
+print_or_refusal (rehearses pivots size seed t bytes) text (cannot_read name) print is = is
+print_or_refusal (rehearses pivots size seed t bytes) text (refused reason) print is = runnable_or_refused pivots t (chunk_count size bytes) reason print.runnable is
+print_or_refusal (rehearses pivots size seed t bytes) text no_memory print is = is
 print_or_refusal (refuses other) text refusal print is = print
 
 -- the refusals of an outcome have one status
@@ -95,6 +105,13 @@ one_status (audits periods t bytes) (refused reason) (cannot_read name) is also 
 one_status (audits periods t bytes) (refused reason) (refused other) is also = one_reason_status periods t bytes reason other is also
 one_status (audits periods t bytes) (refused reason) no_memory is also = absurd also
 one_status (audits periods t bytes) no_memory second is also = absurd is
+one_status (rehearses pivots size seed t bytes) usage second is also = absurd is
+one_status (rehearses pivots size seed t bytes) (cannot_read name) second is also = absurd is
+one_status (rehearses pivots size seed t bytes) (refused reason) usage is also = absurd also
+one_status (rehearses pivots size seed t bytes) (refused reason) (cannot_read name) is also = absurd also
+one_status (rehearses pivots size seed t bytes) (refused reason) (refused other) is also = one_run_status pivots t (chunk_count size bytes) reason other is also
+one_status (rehearses pivots size seed t bytes) (refused reason) no_memory is also = absurd also
+one_status (rehearses pivots size seed t bytes) no_memory second is also = absurd is
 one_status (refuses other) first second is also = ap status_of (sym is ∙ also)
 
 -- an error is no value

@@ -1,4 +1,4 @@
--- Words ask for no more than a million periods.
+-- Words ask for no more than a million periods, and for chunks of at least a byte.
 use Rattle.std.proofs.Common.{◌≡◌, ℕ, ◌≤◌, Bool, true, false, cond, nat_le, List, [], ◌∷◌, Option, Some, None, option_and_then, option_map, bytes_eq, codes, subst, refl, arith}
 use Rattle.std.proofs.lemmas.Bool.{leb-true}
 use Rattle.std.specs.Str.Parse.{digits_value}
@@ -6,15 +6,16 @@ use Rattle.ratio_core.specs.Texts.{is_number}
 use Rattle.clap.specs.Words.{Row, Text, first_of}
 use Rattle.schedule_model.specs.declared.schedule.Series.{Series}
 use Rattle.text_lines.specs.Numbers.{at_most, number_of}
-use Rattle.command_words.specs.Words.{Command, plan, prices, check, audit, plan_app, check_app, audit_app, found_in, number_given, series_given, with_pivots, check_of, audit_of, command_named, command_of}
+use Rattle.command_words.specs.Words.{Command, plan, prices, check, audit, rehearse, plan_app, check_app, audit_app, rehearse_app, found_in, number_given, number_between, series_given, pivots_given, with_pivots, check_of, audit_of, rehearsal_of, rehearse_of, command_named, command_of}
 
--- a command audits over a million periods at most, or audits nothing
+-- a command audits over a million periods at most and rehearses chunks of at least a byte, or does neither
 abbrev pub HasFew : Option Command → Type 0
 HasFew None = Unit {0}
 HasFew (Some (plan name series pivots)) = Unit {0}
 HasFew (Some (prices name series pivots)) = Unit {0}
 HasFew (Some (check name certificate series)) = Unit {0}
 HasFew (Some (audit name other periods)) = periods ≤ 1000000
+HasFew (Some (rehearse name other chunk seed pivots)) = 1 ≤ chunk
 
 either : (b : Bool) (first second : Option Command) → HasFew first → HasFew second → HasFew (cond b first second)
 either true first second h k = h
@@ -66,19 +67,50 @@ audit_rows_few rows =
     (λ file. then_few (λ other. option_map (audit file other) (number_given 1000000 4 (first_of (codes "periods") rows))) (first_of (codes "PLAN") rows)
     (λ other. audits_few file other (first_of (codes "periods") rows)))
 
+-- a number that is given is at least the least
+at_least : (least n : ℕ) (fits : Bool) → nat_le least n ≡ fits → (m : ℕ) → cond fits (Some n) None ≡ Some m → least ≤ m
+at_least least n true is m e = let same : n ≡ m = cc in subst (λ k. least ≤ k) same (leb-true least n is)
+at_least least n false is m e = let bad : None ≡ Some m = e in cc
+
+between_few : (least most default : ℕ) (text : Option (List ℕ)) (next : ℕ → Option Command) → ((m : ℕ) → least ≤ m → HasFew (next m)) → HasFew (option_and_then next (number_between least most default text))
+between_few least most default text next h = of (number_given most default text)
+  where
+    of : (given : Option ℕ) → HasFew (option_and_then next (option_and_then (λ n. cond (nat_le least n) (Some n) None) given))
+    of None = tt
+    of (Some n) = pick (nat_le least n) refl
+      where
+        pick : (fits : Bool) → nat_le least n ≡ fits → HasFew (option_and_then next (cond fits (Some n) None))
+        pick true is = h n (leb-true least n is)
+        pick false is = tt
+
+rehearsal_few : (file other : Text) (rows : List Row) → HasFew (rehearsal_of file other rows)
+rehearsal_few file other rows =
+    between_few 1 16777216 65536 (first_of (codes "chunk") rows)
+    (λ chunk. option_and_then (λ seed. option_map (rehearse file other chunk seed) (pivots_given rows)) (number_given 18446744073709551615 0 (first_of (codes "seed") rows)))
+    (λ chunk some. then_few (λ seed. option_map (rehearse file other chunk seed) (pivots_given rows)) (number_given 18446744073709551615 0 (first_of (codes "seed") rows))
+    (λ seed. mapped_few (rehearse file other chunk seed) (pivots_given rows) (λ pivots. some)))
+
+rehearse_few : (rows : List Row) → HasFew (rehearse_of rows)
+rehearse_few rows =
+    then_few (λ file. option_and_then (λ other. rehearsal_of file other rows) (first_of (codes "DATA") rows)) (first_of (codes "FILE") rows)
+    (λ file. then_few (λ other. rehearsal_of file other rows) (first_of (codes "DATA") rows) (λ other. rehearsal_few file other rows))
+
 named_few : (word : Text) (words : List Text) → HasFew (command_named word words)
 named_few word words =
     let audits = option_and_then audit_of (found_in audit_app words) in
     let checks = option_and_then check_of (found_in check_app words) in
     let prices_of = option_and_then (with_pivots prices) (found_in (plan_app (codes "prices")) words) in
     let plans = option_and_then (with_pivots plan) (found_in (plan_app (codes "plan")) words) in
-    let fourth = cond (bytes_eq word (codes "audit")) audits None in
+    let rehearsals = option_and_then rehearse_of (found_in rehearse_app words) in
+    let fifth = cond (bytes_eq word (codes "rehearse")) rehearsals None in
+    let fourth = cond (bytes_eq word (codes "audit")) audits fifth in
     let third = cond (bytes_eq word (codes "check")) checks fourth in
     let second = cond (bytes_eq word (codes "prices")) prices_of third in
     either (bytes_eq word (codes "plan")) plans second (then_few (with_pivots plan) (found_in (plan_app (codes "plan")) words) (pivots_few plan (λ file series n. tt)))
     (either (bytes_eq word (codes "prices")) prices_of third (then_few (with_pivots prices) (found_in (plan_app (codes "prices")) words) (pivots_few prices (λ file series n. tt)))
     (either (bytes_eq word (codes "check")) checks fourth (then_few check_of (found_in check_app words) check_few)
-    (either (bytes_eq word (codes "audit")) audits None (then_few audit_of (found_in audit_app words) audit_rows_few) tt)))
+    (either (bytes_eq word (codes "audit")) audits fifth (then_few audit_of (found_in audit_app words) audit_rows_few)
+    (either (bytes_eq word (codes "rehearse")) rehearsals None (then_few rehearse_of (found_in rehearse_app words) rehearse_few) tt))))
 
 pub words_few : (words : List (List ℕ)) → HasFew (command_of words)
 words_few [] = tt
@@ -86,3 +118,6 @@ words_few (word ∷ words) = named_few word (word ∷ words)
 
 pub audit_few : (words : List (List ℕ)) (name other : List ℕ) (periods : ℕ) → command_of words ≡ Some (audit name other periods) → periods ≤ 1000000
 audit_few words name other periods e = subst HasFew e (words_few words)
+
+pub some_bytes : (words : List (List ℕ)) (name other : List ℕ) (chunk seed pivots : ℕ) → command_of words ≡ Some (rehearse name other chunk seed pivots) → 1 ≤ chunk
+some_bytes words name other chunk seed pivots e = subst HasFew e (words_few words)

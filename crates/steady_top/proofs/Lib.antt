@@ -3,3 +3,4 @@ pub mod FewPeriods
 pub mod Responses
 pub mod Works
 pub mod Examples
+pub mod Rehearsed

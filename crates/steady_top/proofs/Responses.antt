@@ -5,8 +5,8 @@ use Rattle.outside_io.specs.Files.{Told, untold, absent, contents, FilesView, Ma
 use Rattle.planner.specs.declared.fault.PlanFault.TheVariants as plans
 use Rattle.steady_top.specs.declared.status.Status.{Status}
 use Rattle.steady_top.specs.declared.status.Status.TheVariants as status
-use Rattle.steady_top.specs.Refusals.{Reason, no_platform, no_ticks, no_plan, long_certificate, certificate_line, negative_price, uncovered_column, passed_value, check_overflow, long_plan, plan_line, long_operations, breach, Refusal, usage, refused, cannot_read, no_memory, reason_status, status_of, error_line}
-use Rattle.command_words.specs.Words.{Command, plan, prices, check, audit, command_of}
+use Rattle.steady_top.specs.Refusals.{Reason, no_platform, no_ticks, no_plan, long_certificate, certificate_line, negative_price, uncovered_column, passed_value, check_overflow, long_plan, plan_line, long_operations, nothing_computes, long_data, long_events, breach, Refusal, usage, refused, cannot_read, no_memory, reason_status, status_of, error_line}
+use Rattle.command_words.specs.Words.{Command, plan, prices, check, audit, rehearse, command_of}
 use Rattle.platform_file.specs.Ticks.{TimedView}
 use Rattle.steady_top.specs.Outcomes.{first_name, second_name, files_of, Outcome, refuses, IsText, IsRefusal, work_of, outcome_for, outcome_of_command, outcome_of}
 use Rattle.steady_top.proofs.Audited.{text_or_refusal, print_or_refusal, one_status}
@@ -39,6 +39,9 @@ of_reason (check_overflow column) = tt
 of_reason long_plan = tt
 of_reason (plan_line number) = tt
 of_reason long_operations = tt
+of_reason nothing_computes = tt
+of_reason long_data = tt
+of_reason long_events = tt
 of_reason (breach index rule) = tt
 
 -- so a refusal of what was read has no other status
@@ -125,6 +128,7 @@ opens_second (plan name series pivots) t two = absurd (omega (arith, two))
 opens_second (prices name series pivots) t two = absurd (omega (arith, two))
 opens_second (check name certificate series) t two = refl
 opens_second (audit name other periods) t two = refl
+opens_second (rehearse name other chunk seed pivots) t two = refl
 
 -- behind a platform that was read, the second file is absent
 second_absent : (words : List (List ℕ)) (before after : FilesView) (command : Command) (name : List ℕ) → command_of words ≡ Some command → IsSecondUnread command before after name → before.held name ≡ absent → IsOutcome words before (cannot_read name)

@@ -19,8 +19,10 @@ use Rattle.linear_program.specs.Certificates.{CertificateView}
 use Rattle.planner.specs.declared.fault.PlanFault.{PlanFault}
 use Rattle.planner.specs.declared.fault.PlanFault.TheVariants as plans
 use Rattle.planner.specs.Prices.{prices_of}
-use Rattle.planner.specs.Plans.{fault_of_scale, fault_of_answer, fault_of}
+use Rattle.period_table.specs.Best.{IsBest}
+use Rattle.planner.specs.Plans.{fault_of_scale, fault_of_answer, fault_of, IsPlan}
 use Rattle.schedule_model.specs.declared.schedule.Series.{Series}
+use Rattle.schedule_model.specs.declared.schedule.Series.TheVariants.{Tasking}
 use Rattle.series_flows.specs.Programmes.{programme_of, lacks_targets}
 use Rattle.dual_checker.specs.declared.verdict.Verdict.{Verdict}
 use Rattle.dual_checker.specs.declared.verdict.Verdict.TheVariants.{Proves, Negative, Column, Value, Overflow}
@@ -28,12 +30,15 @@ use Rattle.dual_checker.specs.declared.reading.CertificateFault.{CertificateFaul
 use Rattle.dual_checker.specs.declared.reading.CertificateFault.TheVariants as text
 use Rattle.dual_checker.specs.Reading.{certificate_of}
 use Rattle.dual_checker.specs.Verdicts.{verdict_of}
-use Rattle.steady_top.specs.Refusals.{Reason, no_platform, long_certificate, long_plan, Refusal, usage, refused, cannot_read, no_memory, platform_refusal, timed_refusal, plan_refusal}
-use Rattle.command_words.specs.Words.{Command, plan, prices, check, audit}
+use Rattle.chunk_tasks.specs.Chunks.{chunk_count}
+use Rattle.planner.specs.declared.planned.Plan.{Plan}
+use Rattle.steady_top.specs.Rehearsals.{most_data_bytes}
+use Rattle.steady_top.specs.Refusals.{Reason, no_platform, long_certificate, long_plan, long_data, Refusal, usage, refused, cannot_read, no_memory, platform_refusal, timed_refusal, plan_refusal}
+use Rattle.command_words.specs.Words.{Command, plan, prices, check, audit, rehearse}
 use Rattle.steady_top.specs.Audits.{IsReason}
-use Rattle.steady_top.specs.Outcomes.{first_name, second_name, files_of, files_for, Outcome, prints, plans as plans_of, audits, refuses, IsRefusal, with_timed, with_platform, with_file, planned, priced, plan_of, certificate_for, judged, judged_reading, check_of_bytes, check_of_file, most_plan_bytes, audit_of_file, work_of}
+use Rattle.steady_top.specs.Outcomes.{first_name, second_name, files_of, files_for, Outcome, prints, plans as plans_of, audits, rehearses, refuses, IsRefusal, with_timed, with_platform, with_file, planned, priced, plan_of, certificate_for, judged, judged_reading, check_of_bytes, check_of_file, most_plan_bytes, audit_of_file, rehearsed, rehearse_of_bytes, rehearse_of_file, work_of}
 use Rattle.steady_top.specs.Answers.{MayBe, ComesTo, AreOpened, IsMade, IsRefusedFor, IsCauseFor}
-use Rattle.steady_top.specs.Planned.{IsUnread, IsPlatformRead, IsPlatformFault, IsSecondRead, IsSecondFault, MayRefuse, IsBestPlan, IsBestPrices, IsProved, IsChecked, IsAuditFault, IsAudited}
+use Rattle.steady_top.specs.Planned.{IsUnread, IsPlatformRead, IsPlatformFault, IsSecondRead, IsSecondFault, MayRefuse, IsBestPlan, IsBestPrices, IsProved, IsChecked, IsAuditFault, IsAudited, IsTableFault, IsRunOf, IsBestRehearsal, IsRehearsalFault, IsRehearsedOver}
 
 -- the bytes that were read may be what is told
 pub read_may_be : (told : Told) (bytes : List ℕ) → MayHold told bytes → MayBe told (Some bytes)
@@ -197,6 +202,10 @@ pub unpriced_is_cause : (before after : FilesView) (name : List ℕ) (series : S
 unpriced_is_cause before after name series pivots t read =
     refused_is_cause (prices name series pivots) before after t (Some read.platform.bytes) read read.platform.file (first_of_prices name series pivots (prices_of pivots t series))
 
+-- a platform with a plan has no fault
+no_fault : (most : ℕ) (t : TimedView) (series : Series) (p : Plan) → IsPlan most t series p → fault_of most t series ≡ None
+no_fault most t series p made = ap (option_and_then (fault_of_answer t series)) made.solved ∙ ap fault_of_scale made.made.routed.scaled
+
 -- a plan that is found is what the command prints
 pub planned_is_made : (before after : FilesView) (name : List ℕ) (series : Series) (most : ℕ) (t : TimedView) (text : List ℕ) → IsPlatformRead before name after t → IsBestPlan most t series text →
     IsMade (plan name series most) before after text
@@ -210,7 +219,7 @@ planned_is_made before after name series most t text read found = record {
 }
   where
     none : fault_of most t series ≡ None
-    none = ap (option_and_then (fault_of_answer t series)) found.made.solved ∙ ap fault_of_scale found.made.made.routed.scaled
+    none = no_fault most t series found.plan found.made
 
 -- prices that are found are what the command prints
 pub priced_is_made : (before after : FilesView) (name : List ℕ) (series : Series) (most : ℕ) (t : TimedView) (text : List ℕ) → IsPlatformRead before name after t → IsBestPrices most t series text →
@@ -395,6 +404,96 @@ audited_is_made before middle after name second periods t read text audited = re
   where
     file : MayBe (before.held second) (Some audited.bytes)
     file = told_before before middle name t second (Some audited.bytes) read audited.read.file
+
+-- data that are too long
+pub long_data_refused : (pivots size seed : ℕ) (t : TimedView) (bytes : List ℕ) → most_data_bytes < length bytes → rehearse_of_file pivots size seed t bytes ≡ refuses (refused long_data)
+long_data_refused pivots size seed t bytes h = rw (lt-ltb most_data_bytes (length bytes) h) refl
+
+short_is_rehearsed : (pivots size seed : ℕ) (t : TimedView) (bytes : List ℕ) → length bytes ≤ most_data_bytes → rehearse_of_file pivots size seed t bytes ≡ rehearse_of_bytes pivots size seed t bytes
+short_is_rehearsed pivots size seed t bytes h = rw (le-ltb most_data_bytes (length bytes) h) refl
+
+-- a platform with a plan is rehearsed
+plan_is_rehearsed : (pivots size seed : ℕ) (t : TimedView) (bytes : List ℕ) (p : Plan) → IsPlan pivots t Tasking p → rehearse_of_bytes pivots size seed t bytes ≡ rehearses pivots size seed t bytes
+plan_is_rehearsed pivots size seed t bytes p made = ap (rehearsed pivots size seed t bytes) (no_fault pivots t Tasking p made)
+
+-- what refuses a rehearsal refuses it behind both files
+second_of_rehearsal : (pivots size seed : ℕ) (t : TimedView) (bytes : List ℕ) (fault : Option PlanFault) (reason : Reason) → IsRefusal (rehearsed pivots size seed t bytes fault) (refused reason) →
+    (command : Command) → files_for command reason ≡ files_of command
+second_of_rehearsal pivots size seed t bytes None reason (inl w) command = ap (files_for command) w.0
+second_of_rehearsal pivots size seed t bytes None reason (inr w) command = ap (files_for command) w.0
+second_of_rehearsal pivots size seed t bytes (Some plans.NoTargets) reason is command = sym (ap (λ r. opened command (refuses r)) is)
+second_of_rehearsal pivots size seed t bytes (Some (plans.Pivot made row column)) reason is command = sym (ap (λ r. opened command (refuses r)) is)
+second_of_rehearsal pivots size seed t bytes (Some (plans.Spent allowed)) reason is command = sym (ap (λ r. opened command (refuses r)) is)
+second_of_rehearsal pivots size seed t bytes (Some (plans.Period step left right)) reason is command = sym (ap (λ r. opened command (refuses r)) is)
+second_of_rehearsal pivots size seed t bytes (Some plans.NoMemory) reason is command = sym (ap (λ r. opened command (refuses r)) is)
+
+-- what the planner refuses, the rehearsal does
+pub unplanned_is_fault : (pivots size seed : ℕ) (t : TimedView) (bytes : List ℕ) (refusal : Refusal) → MayRefuse (rehearse_of_bytes pivots size seed t bytes) refusal → IsRehearsalFault pivots size seed t bytes refusal
+unplanned_is_fault pivots size seed t bytes usage may = may
+unplanned_is_fault pivots size seed t bytes (cannot_read name) may = may
+unplanned_is_fault pivots size seed t bytes (refused reason) may = subst (λ o. IsRefusal o (refused reason)) (sym may) refl
+unplanned_is_fault pivots size seed t bytes no_memory may = tt
+
+-- why a plan's table isn't carried out is why the rehearsal is refused
+pub unrun_is_fault : (pivots size seed : ℕ) (t : TimedView) (bytes : List ℕ) (p : Plan) → IsPlan pivots t Tasking p → (refusal : Refusal) → IsTableFault t p.table (chunk_count size bytes) refusal →
+    IsRehearsalFault pivots size seed t bytes refusal
+unrun_is_fault pivots size seed t bytes p made usage fault = fault
+unrun_is_fault pivots size seed t bytes p made (cannot_read name) fault = fault
+unrun_is_fault pivots size seed t bytes p made (refused reason) (inl w) =
+    subst (λ o. IsRefusal o (refused reason)) (sym (plan_is_rehearsed pivots size seed t bytes p made)) (inl (w.0, record { plan = p; planned = made; none = w.1; some = w.2 }))
+unrun_is_fault pivots size seed t bytes p made (refused reason) (inr w) =
+    subst (λ o. IsRefusal o (refused reason)) (sym (plan_is_rehearsed pivots size seed t bytes p made)) (inr (w.0, record { plan = p; planned = made; computes = w.1; long = w.2 }))
+unrun_is_fault pivots size seed t bytes p made no_memory fault = tt
+
+-- a run of the plan's table is a rehearsal
+pub run_is_rehearsal : (pivots size seed : ℕ) (t : TimedView) (bytes : List ℕ) (p : Plan) → IsPlan pivots t Tasking p → IsBest t Tasking p.table → (text : List ℕ) → IsRunOf t p.table size seed bytes text →
+    IsBestRehearsal pivots size seed t bytes text
+run_is_rehearsal pivots size seed t bytes p made best text run = record {
+  rehearsal = record {
+    runnable = record { plan = p; planned = made; computes = run.computes; short = run.short };
+    history = run.history;
+    rehearsed = run.rehearsed;
+    is_text = run.is_text;
+  };
+  best = best;
+}
+
+-- what the rehearsal over data that were read refuses
+pub unrehearsed_is_second : (pivots size seed : ℕ) (t : TimedView) (before after : FilesView) (name bytes : List ℕ) → IsSecondRead before name most_data_bytes after bytes → (refusal : Refusal) →
+    IsRehearsalFault pivots size seed t bytes refusal → IsSecondFault (rehearse_of_file pivots size seed t) before name after refusal
+unrehearsed_is_second pivots size seed t before after name bytes read usage fault = absurd fault
+unrehearsed_is_second pivots size seed t before after name bytes read (refused reason) fault = record {
+  opens = read.opens;
+  cause = record {
+    bytes = bytes;
+    file = read.file;
+    refusal = subst (λ o. IsRefusal o (refused reason)) (sym (short_is_rehearsed pivots size seed t bytes read.size)) fault;
+    second = second_of_rehearsal pivots size seed t bytes (fault_of pivots t Tasking) reason fault;
+  };
+}
+unrehearsed_is_second pivots size seed t before after name bytes read (cannot_read named) fault = absurd fault
+unrehearsed_is_second pivots size seed t before after name bytes read no_memory fault = record { opens = read.opens; cause = read.calm }
+
+pub unrehearsed_is_cause : (before middle after : FilesView) (name second : List ℕ) (size seed pivots : ℕ) (t : TimedView) → IsPlatformRead before name middle t → (refusal : Refusal) →
+    IsSecondFault (rehearse_of_file pivots size seed t) middle second after refusal → IsCauseFor (rehearse name second size seed pivots) before after refusal
+unrehearsed_is_cause before middle after name second size seed pivots t read =
+    second_cause (rehearse name second size seed pivots) before middle after t (rehearse_of_file pivots size seed t) refl (λ bytes. refl) read
+
+-- what the rehearsal over a file's data says is what the command comes to
+pub rehearsed_is_made : (before middle after : FilesView) (name second : List ℕ) (size seed pivots : ℕ) (t : TimedView) → IsPlatformRead before name middle t → (text : List ℕ) →
+    IsRehearsedOver t pivots size seed middle second after text → IsMade (rehearse name second size seed pivots) before after text
+rehearsed_is_made before middle after name second size seed pivots t read text found = record {
+  outcome = rehearses pivots size seed t found.bytes;
+  comes = comes_of (rehearse name second size seed pivots) before middle t (Some found.bytes) (rehearses pivots size seed t found.bytes) read file
+      (short_is_rehearsed pivots size seed t found.bytes found.read.size ∙ plan_is_rehearsed pivots size seed t found.bytes found.done.rehearsal.runnable.plan found.done.rehearsal.runnable.planned);
+  due = found.done.rehearsal;
+  claim = record { timed = t; platform = read.platform; bytes = found.bytes; file = file; rehearsal = found.done.rehearsal; best = found.done.best };
+  calm = found.read.calm ∙ read.calm;
+  opens = raised_twice before.opens middle.opens after.opens read.opens found.read.opens;
+}
+  where
+    file : MayBe (before.held second) (Some found.bytes)
+    file = told_before before middle name t second (Some found.bytes) read found.read.file
 
 -- what holds of an error holds of the result that has it
 pub of_error : {A E : Type 0} (P : A → Type 0) {Q R : E → Type 0} (r : Result A E) → IsErr r → IsErrAnd r R → ((e : E) → R e → Q e) → MatchResult r P Q

@@ -1,5 +1,5 @@
 -- What reading a named file comes to: a platform's, and a certificate's or a plan's behind it (this project).
-use Rattle.std.specs.Prelude.{◌≡◌, ℕ, ◌+◌, ◌*◌, ◌≤◌, ◌⊎◌, true, false, nat_abs, List, length, Some, Ok}
+use Rattle.std.specs.Prelude.{◌≡◌, ◌≢◌, ℕ, ◌+◌, ◌*◌, ◌<◌, ◌≤◌, ◌⊎◌, true, false, nat_abs, List, length, Some, Ok}
 use Rattle.command_words.specs.Words.{Command}
 use Rattle.outside_io.specs.Files.{FilesView, HasCause}
 use Rattle.outside_io.specs.Reading.{MayPass}
@@ -17,7 +17,7 @@ use Rattle.planner.specs.Plans.{IsPlan}
 use Rattle.planner.specs.Prices.{prices_of, IsBestCertificate}
 use Rattle.plan_text.specs.Texts.{plan_text}
 use Rattle.period_table.specs.Best.{IsBest}
-use Rattle.steady_top.specs.Refusals.{Reason, Refusal, usage, refused, cannot_read, no_memory}
+use Rattle.steady_top.specs.Refusals.{Reason, nothing_computes, long_events, Refusal, usage, refused, cannot_read, no_memory}
 use Rattle.steady_top.specs.Outcomes.{Outcome, files_of, files_for, refuses, IsRefusal, with_file, upper_text, most_plan_bytes, rehearse_of_bytes}
 use Rattle.schedule_model.specs.declared.schedule.Series.{Series}
 use Rattle.schedule_model.specs.declared.schedule.Series.TheVariants.{Tasking}
@@ -26,7 +26,12 @@ use Rattle.period_table.specs.declared.table.Table.{Table}
 use Rattle.period_table.specs.TableSchedules.{ops_below, table_schedule}
 use Rattle.plan_text.specs.Reading.{IsPlanOf}
 use Rattle.steady_top.specs.Audits.{most_operations, IsReason, IsAudit}
-use Rattle.steady_top.specs.Rehearsals.{most_data_bytes, IsRunReason, IsRehearsal}
+use Rattle.step_core.specs.declared.wiring.Event.{Event}
+use Rattle.step_core.specs.Wirings.{WiringView}
+use Rattle.actor_programs.specs.Programs.{wiring_of}
+use Rattle.actor_programs.specs.Faults.{events_in}
+use Rattle.chunk_tasks.specs.Chunks.{chunk_count}
+use Rattle.steady_top.specs.Rehearsals.{most_data_bytes, most_events, IsHistoryOf, run_text, IsRehearsal}
 use Rattle.steady_top.specs.Answers.{MayBe, AreOpened, IsPlatformOf}
 
 -- a named file has no bytes to go on with: it can't be opened or read, it is longer than so many bytes, which is the refusal `long`, or
@@ -171,12 +176,32 @@ pub record IsRehearsedOver (t : TimedView) (pivots size seed : ℕ) (before : Fi
   pub read : IsSecondRead before name most_data_bytes after bytes
   pub done : IsBestRehearsal pivots size seed t bytes text
 
--- a plan isn't carried out over so many chunks; memory may run out at any time
-abbrev pub IsRunFault : ℕ → TimedView → ℕ → Refusal → Type 0
-IsRunFault pivots t chunks no_memory = Unit {0}
-IsRunFault pivots t chunks usage = ⊥
-IsRunFault pivots t chunks (cannot_read name) = ⊥
-IsRunFault pivots t chunks (refused reason) = IsRunReason pivots t chunks reason
+-- the wiring is a table's for so many chunks, which it computes in few enough events
+pub record IsWired (t : TimedView) (table : Table) (chunks : ℕ) (wiring : WiringView) : Type 0 where
+  pub is : wiring ≡ wiring_of t table chunks
+  pub computes : table.tasks ≡ 0 → chunks ≡ 0
+  pub short : events_in t table chunks ≤ most_events
+
+-- why a table isn't carried out over so many chunks
+abbrev pub IsTableReason : TimedView → Table → ℕ → Reason → Type 0
+IsTableReason t table chunks reason =
+    ((reason ≡ nothing_computes) × (table.tasks ≡ 0) × (chunks ≢ 0))
+    ⊎ ((reason ≡ long_events) × (table.tasks ≡ 0 → chunks ≡ 0) × (most_events < events_in t table chunks))
+
+-- it isn't; memory may run out at any time
+abbrev pub IsTableFault : TimedView → Table → ℕ → Refusal → Type 0
+IsTableFault t table chunks no_memory = Unit {0}
+IsTableFault t table chunks usage = ⊥
+IsTableFault t table chunks (cannot_read name) = ⊥
+IsTableFault t table chunks (refused reason) = IsTableReason t table chunks reason
+
+-- the text is that of a table and of its run over the data, of which the seed chooses a history
+pub record IsRunOf (t : TimedView) (table : Table) (size seed : ℕ) (bytes text : List ℕ) : Type 0 where
+  pub computes : table.tasks ≡ 0 → chunk_count size bytes ≡ 0
+  pub short : events_in t table (chunk_count size bytes) ≤ most_events
+  pub history : List Event
+  pub rehearsed : IsHistoryOf t table (chunk_count size bytes) seed history
+  pub is_text : text ≡ run_text t table size bytes
 
 -- the rehearsal over some data is refused; memory may run out at any time
 abbrev pub IsRehearsalFault : ℕ → ℕ → ℕ → TimedView → List ℕ → Refusal → Type 0

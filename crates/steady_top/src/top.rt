@@ -1,6 +1,6 @@
 //! The top call: from the words and the bytes of a file to the bytes of an answer.
 
-ghost use Rattle.std.specs.Prelude.{map, string_bytes, MatchResult};
+ghost use Rattle.std.specs.Prelude.{◌≡◌, map, string_bytes, MatchResult, IsOkAnd, IsErrAnd};
 ghost use Rattle.steady_top.specs.Faults.{refusal_of};
 ghost use Rattle.steady_top.specs.Refusals.{status_of, no_memory, error_line};
 ghost use Rattle.steady_top.specs.Answers.{IsAnswer, IsCause, call_of, IsResponse, IsOneOf, Ends};
@@ -10,20 +10,30 @@ use crate::auditing::audit;
 use crate::checking::check;
 use crate::fault::TopFault;
 use crate::planning::{plan, prices};
+use crate::rehearsing::rehearse;
 use crate::status::Status;
 use command_words::{Command, WordsFault, command_in};
 use listed::NoMemory;
 use outside_io::{Failed, Files, Sink, write_whole};
 use std::alloc::Global;
 
+/// The bytes of a text, or why there is none.
+fn bytes_of<'a>(text: Result<String, TopFault<'a>>) -> Result<Vec<u8>, TopFault<'a>>
+    ensures { MatchResult text.entry
+        (λ t. IsOkAnd result (λ bytes. bytes.items ≡ string_bytes t))
+        (λ fault. IsErrAnd result (λ same. refusal_of same ≡ refusal_of fault)) }
+{
+    Ok(text?.into_bytes())
+}
+
 /// All that comes before the first byte is written: the text to print, or why there is none.
 fn answer<'a, F: Files>(
     alloc: Global,
     words: &'a [String],
     files: &mut F,
-) -> Result<String, TopFault<'a>>
+) -> Result<Vec<u8>, TopFault<'a>>
     ensures { MatchResult result
-        (λ text. IsAnswer (map string_bytes words.now) (F.state files.old) (F.state files.new) (string_bytes text))
+        (λ text. IsAnswer (map string_bytes words.now) (F.state files.old) (F.state files.new) text.items)
         (λ fault. IsCause (map string_bytes words.now) (F.state files.old) (F.state files.new) (refusal_of fault)) }
 {
     match command_in(alloc, words) {
@@ -33,28 +43,37 @@ fn answer<'a, F: Files>(
                 series,
                 pivots,
             },
-        ) => plan(alloc, files, file, series, pivots),
+        ) => bytes_of(plan(alloc, files, file, series, pivots)),
         Ok(
             Command::Prices {
                 file,
                 series,
                 pivots,
             },
-        ) => prices(alloc, files, file, series, pivots),
+        ) => bytes_of(prices(alloc, files, file, series, pivots)),
         Ok(
             Command::Check {
                 file,
                 certificate,
                 series,
             },
-        ) => check(alloc, files, file, certificate, series),
+        ) => bytes_of(check(alloc, files, file, certificate, series)),
         Ok(
             Command::Audit {
                 file,
                 plan,
                 periods,
             },
-        ) => audit(alloc, files, file, plan, periods),
+        ) => bytes_of(audit(alloc, files, file, plan, periods)),
+        Ok(
+            Command::Rehearse {
+                file,
+                data,
+                chunk,
+                seed,
+                pivots,
+            },
+        ) => rehearse(alloc, files, file, data, chunk, seed, pivots),
         Err(WordsFault::Usage) => Err(TopFault::Usage),
         Err(WordsFault::NoMemory) => Err(TopFault::NoMemory),
     }
@@ -86,7 +105,7 @@ fn respond<F: Files, S: Sink>(alloc: Global, words: &[String], files: &mut F, ou
     ensures { IsResponse (call_of words.now (F.state files.old) (F.state files.new) (S.state out.old) (S.state out.new)) result }
 {
     match answer(alloc, words, files) {
-        Ok(text) => finish(out, text.as_bytes(), Status::Done),
+        Ok(text) => finish(out, &text, Status::Done),
         Err(fault) => refuse(alloc, &fault, out),
     }
 }
