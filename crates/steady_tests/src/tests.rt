@@ -6,5 +6,6 @@ mod plans;
 mod platform_faults;
 mod platforms;
 mod refusals;
+mod rehearsals;
 mod runs;
 mod words;
