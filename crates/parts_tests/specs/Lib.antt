@@ -1,1 +1,2 @@
+pub mod HandOvers
 pub mod Relays

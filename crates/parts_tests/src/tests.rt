@@ -9,6 +9,7 @@ mod optima;
 mod periods;
 mod programmes;
 mod ratios;
+mod rehearsals;
 mod rows;
 mod scripted;
 mod steps;
