@@ -18,6 +18,11 @@ module _ {A E W : Type 0} (IsWords : A → W → Type 0) (IsMemory : E → Type 
       (λ all. MatchResult result (IsWords all) (λ fault. fault ≡ top.NoMemory))
       (λ error. (IsMemory error → result ≡ Err top.NoMemory) × ((IsMemory error → ⊥) → result ≡ Err top.Usage))
 
+  -- with words they are the host's
+  pub words_had : (arguments : Result A E) (words : W) → AreWords arguments (Ok words) → IfOk arguments (λ all. IsWords all words)
+  words_had (Ok all) words h = h
+  words_had (Err error) words h = tt
+
   -- without words the fault is what it has to be
   pub memory_lost : (arguments : Result A E) (fault : TopFault) → AreWords arguments (Err fault) → IfOk arguments (λ all. fault ≡ top.NoMemory)
   memory_lost (Ok all) fault h = h

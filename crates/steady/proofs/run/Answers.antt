@@ -1,12 +1,23 @@
-use Rattle.std.proofs.Common.{◌≡◌, [], drop, vec_items, refl}
+use Rattle.std.proofs.Common.{◌≡◌, ◌∙◌, [], drop, vec_items, refl, subst}
 use Rattle.std.specs.Vec.Iter.{into_iter_items}
 use Rattle.std.specs.IoError.{error_kind}
 use Rattle.std.specs.declared.io.ErrorKind.TheVariants as kind
 use Rattle.steady_top.specs.declared.fault.TopFault.TheVariants as top
 use Rattle.steady_top.specs.Refusals.{usage, no_memory}
 use Rattle.steady_top.specs.Answers.{call_of}
-use Rattle.steady.proofs.Runs.{memory_lost, is_usage, is_memory, memory_ends, wordless_ends, ok_then, err_then}
+use Rattle.steady_top.specs.Ends.{IsEnd}
+use Rattle.steady.proofs.Runs.{words_had, memory_lost, is_usage, is_memory, memory_ends, wordless_ends, ok_then, err_then}
 use Rattle.steady.proofs.run.Goals as goal
+
+pub returns-in-Ok-clause-words : goal.returns-in-Ok-clause-words
+returns-in-Ok-clause-words g c =
+    let before = g.F.Files.state c.args.files.now in
+    let after = g.F.Files.state c.steady.new.files in
+    let out = g.S.Sink.state c.args.out.now in
+    let written = g.S.Sink.state c.steady.new.out in
+    ok_then c.args.arguments
+    (λ all is. (c.steady.result, c.code.ensures, subst (λ words. IsEnd (call_of words before after out written) c.steady.result) (c.as_slice.ensures.value ∙ is) c.steady.ensures))
+    (words_had (λ all words. vec_items words ≡ drop 1 (into_iter_items all)) (λ error. error_kind error ≡ kind.OutOfMemory) c.args.arguments c.in-Ok.words c.in-Ok.ensures)
 
 pub returns-in-Err-clause-words : goal.returns-in-Err-clause-words
 returns-in-Err-clause-words g c =
